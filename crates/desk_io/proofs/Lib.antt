@@ -1,0 +1,4 @@
+pub mod Finding
+pub mod Growth
+pub mod Reading
+pub mod Writing

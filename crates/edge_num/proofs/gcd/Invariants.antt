@@ -1,0 +1,10 @@
+use Rattle.std.proofs.Common.{ℕ}
+use Rattle.std.specs.Int.{IsGcd}
+use Rattle.edge_num.proofs.gcd.Given as goal
+
+-- A common divisor that is the greatest of the two numbers at hand is the greatest of the two given.
+abbrev pub invariant-loop-smaller : goal.invariant-loop-smaller
+invariant-loop-smaller l = (g : ℕ) → IsGcd l.greater l.smaller g → IsGcd l.fn.a l.fn.b g
+
+abbrev pub decreases-loop-smaller : goal.decreases-loop-smaller
+decreases-loop-smaller l = l.smaller

@@ -1,0 +1,3 @@
+pub mod Capped
+pub mod Again
+pub mod Places

@@ -1,0 +1,19 @@
+//! Numbers in millionths, positions in ticks of 1/10,000 mm, and the decimal texts of both.
+#![tactic(auto)]
+
+mod fault;
+mod fix;
+mod power;
+mod reading;
+mod row;
+mod spot;
+mod writing;
+
+pub use fault::NumberFault;
+pub use fix::{Fix, written_is_read_back};
+pub use reading::read_fix;
+pub use row::Row;
+pub use spot::{Spot, ticks, write_ticks};
+
+#[cfg(test)]
+mod tests;

@@ -1,0 +1,92 @@
+-- The words that a search in the table finds, and the search for each of them.
+use Rattle.std.proofs.Common.{◌≡◌, ℕ, List, [], ◌∷◌, Option, Some, None, Bool, true, false, cond, ◌&&◌, refl, sym, ap, ◌∙◌, codes}
+use Rattle.std.specs.Str.{bytes_eq}
+use Rattle.std.specs.List.{list_all}
+use Rattle.std.proofs.lemmas.Slice.Eq.{bytes_eq-Decides}
+use Rattle.gcl_reader.specs.Table.{named, heads, head_text, statements, statement_text, text_of, head_of, statement_of}
+use Rattle.gcl_reader.specs.Fitting.{IsWord}
+use Rattle.gcl_reader.specs.Spelling.{statement_in}
+use Rattle.gcl_reader.specs.declared.word.Word.{Word}
+use Rattle.gcl_reader.specs.declared.word.Word.TheVariants as word
+use Rattle.gcl_reader.specs.declared.word.Side.TheVariants as side
+use Rattle.gcl_reader.specs.declared.word.Statement.{Statement}
+use Rattle.gcl_reader.specs.declared.word.Statement.TheVariants as statement
+use Rattle.gcl_reader.specs.declared.word.Head.{Head}
+use Rattle.gcl_reader.specs.declared.word.Head.TheVariants as head
+
+text-step : {X : Type 0} (written : X → List ℕ) (y : X) (ys : List X) (text : List ℕ) (x : X) → (named written ys text ≡ Some x → text ≡ written x) →
+    (b : Bool) → bytes_eq text (written y) ≡ b → cond b (Some y) (named written ys text) ≡ Some x → text ≡ written x
+text-step written y ys text x later true e h = let same : y ≡ x = cc in (bytes_eq-Decides text (written y)).0 e ∙ ap written same
+text-step written y ys text x later false e h = later h
+
+-- What is found is written as the text.
+named-text : {X : Type 0} (written : X → List ℕ) (xs : List X) (text : List ℕ) (x : X) → named written xs text ≡ Some x → text ≡ written x
+unfolding named
+named-text written [] text x h = cc
+named-text written (y ∷ ys) text x h = text-step written y ys text x (named-text written ys text x) (bytes_eq text (written y)) refl h
+
+both : (a b : Bool) → (a && b) ≡ true → (a ≡ true) × (b ≡ true)
+both true b h = (refl, h)
+both false b h = cc
+
+test-step : {X : Type 0} (written : X → List ℕ) (test : X → Bool) (y : X) (ys : List X) (text : List ℕ) (x : X) → test y ≡ true → (named written ys text ≡ Some x → test x ≡ true) →
+    (b : Bool) → cond b (Some y) (named written ys text) ≡ Some x → test x ≡ true
+test-step written test y ys text x e later true h = let same : y ≡ x = cc in ap test (sym same) ∙ e
+test-step written test y ys text x e later false h = later h
+
+-- What is found passes each test that all pass.
+named-test : {X : Type 0} (written : X → List ℕ) (test : X → Bool) (xs : List X) (text : List ℕ) (x : X) → list_all test xs ≡ true → named written xs text ≡ Some x → test x ≡ true
+unfolding named
+named-test written test [] text x all h = cc
+named-test written test (y ∷ ys) text x all h =
+    let p = both (test y) (list_all test ys) all in
+    test-step written test y ys text x p.0 (named-test written test ys text x p.1) (bytes_eq text (written y)) h
+
+-- whether the word of a head is one of the language and asks for no proof
+stands_alone : Head → Bool
+stands_alone (head.Word (word.CmarkAt side.Centre)) = false
+stands_alone (head.Word (word.Prove s)) = false
+stands_alone h = true
+
+all-stand-alone : list_all stands_alone heads ≡ true
+unfolding stands_alone
+all-stand-alone = refl
+
+word-alone : (w : Word) → stands_alone (head.Word w) ≡ true → (statement_in w ≡ None) × IsWord w
+unfolding stands_alone
+word-alone (word.CmarkAt side.Centre) h = cc
+word-alone (word.Prove s) h = cc
+word-alone w h = (refl, tt)
+
+-- The first token of a command is its word, or that of a proof.
+abbrev pub IsHead : List ℕ → Head → Type 0
+IsHead text (head.Word w) = (text ≡ text_of w) × (statement_in w ≡ None) × IsWord w
+IsHead text head.Prove = text ≡ codes "prove"
+
+pub head-is : (text : List ℕ) (h : Head) → head_of text ≡ Some h → IsHead text h
+unfolding head_of
+head-is text (head.Word w) e =
+    let p = word-alone w (named-test head_text stands_alone heads text (head.Word w) all-stand-alone e) in
+    (named-text head_text heads text (head.Word w) e, p.0, p.1)
+head-is text head.Prove e = named-text head_text heads text head.Prove e
+
+pub statement-is : (text : List ℕ) (s : Statement) → statement_of text ≡ Some s → text ≡ statement_text s
+unfolding statement_of
+statement-is text s e = named-text statement_text statements text s e
+
+-- Each word is found by its text.
+pub word-found : (w : Word) → IsWord w → statement_in w ≡ None → head_of (text_of w) ≡ Some (head.Word w)
+unfolding head_of named
+word-found (word.CmarkAt side.Centre) i e = absurd i
+word-found (word.Mark side.Centre) i e = refl
+word-found (word.Prove s) i e = cc
+word-found w i e = refl
+
+pub prove-found : head_of (codes "prove") ≡ Some head.Prove
+unfolding head_of named
+prove-found = refl
+
+pub statement-found : (s : Statement) → statement_of (statement_text s) ≡ Some s
+unfolding statement_of named
+statement-found statement.Identical = refl
+statement-found s = refl

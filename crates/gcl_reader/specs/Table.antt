@@ -1,0 +1,153 @@
+-- The command table: how each word and each statement is written, and what stands in the places behind it.
+use Rattle.std.specs.Prelude.{ℕ, List, [], ◌∷◌, ◌++◌, map, Option, Some, None, codes, Bool, true, false, if◌then◌else◌, ◌&&◌, ◌==◌, ◌%◌, ◌*◌, ◌^◌, nat_le, ℤ, pos, negsuc, int_le}
+use Rattle.std.specs.Str.{bytes_eq}
+use Rattle.fixed_point.specs.Ticks.{ticks_of}
+use Rattle.gcl_reader.specs.declared.word.Side.{Side}
+use Rattle.gcl_reader.specs.declared.word.Side.TheVariants as side
+use Rattle.gcl_reader.specs.declared.word.Word.{Word}
+use Rattle.gcl_reader.specs.declared.word.Word.TheVariants as word
+use Rattle.gcl_reader.specs.declared.word.Statement.{Statement}
+use Rattle.gcl_reader.specs.declared.word.Statement.TheVariants as statement
+use Rattle.gcl_reader.specs.declared.word.Head.{Head}
+use Rattle.gcl_reader.specs.declared.word.Head.TheVariants as head
+use Rattle.gcl_reader.specs.declared.word.Place.{Place}
+use Rattle.gcl_reader.specs.declared.word.Place.TheVariants as place
+use Rattle.gcl_reader.specs.declared.word.Range.{Range}
+use Rattle.gcl_reader.specs.declared.word.Range.TheVariants as range
+
+-- The letters of a side.
+abbrev pub side_text : Side → List ℕ
+side_text side.Centre = []
+side_text side.L = codes "l"
+side_text side.R = codes "r"
+side_text side.T = codes "t"
+side_text side.B = codes "b"
+side_text side.Lt = codes "lt"
+side_text side.Lb = codes "lb"
+side_text side.Rt = codes "rt"
+side_text side.Rb = codes "rb"
+
+-- How a word is written.
+abbrev pub text_of : Word → List ℕ
+text_of word.Dim = codes "dim"
+text_of word.Color = codes "color"
+text_of word.Prooflevel = codes "prooflevel"
+text_of word.Prooflimit = codes "prooflimit"
+text_of word.ProverTimeout = codes "prover_timeout"
+text_of word.Point = codes "point"
+text_of word.Line = codes "line"
+text_of word.Circle = codes "circle"
+text_of word.Intersec = codes "intersec"
+text_of word.Intersec2 = codes "intersec2"
+text_of word.Midpoint = codes "midpoint"
+text_of word.Med = codes "med"
+text_of word.Perp = codes "perp"
+text_of word.Parallel = codes "parallel"
+text_of word.Foot = codes "foot"
+text_of word.Online = codes "online"
+text_of word.Oncircle = codes "oncircle"
+text_of word.Translate = codes "translate"
+text_of word.Towards = codes "towards"
+text_of word.Drawpoint = codes "drawpoint"
+text_of word.Drawsegment = codes "drawsegment"
+text_of word.Drawdashsegment = codes "drawdashsegment"
+text_of word.Drawline = codes "drawline"
+text_of word.Drawcircle = codes "drawcircle"
+text_of word.Cmark = codes "cmark"
+text_of (word.CmarkAt s) = codes "cmark_" ++ side_text s
+text_of (word.Mark side.Centre) = codes "mark"
+text_of (word.Mark s) = codes "mark_" ++ side_text s
+text_of (word.Prove s) = codes "prove"
+
+-- How a statement is written.
+abbrev pub statement_text : Statement → List ℕ
+statement_text statement.Identical = codes "identical"
+statement_text statement.Collinear = codes "collinear"
+statement_text statement.Perpendicular = codes "perpendicular"
+statement_text statement.Parallel = codes "parallel"
+statement_text statement.Midpoint = codes "midpoint"
+statement_text statement.SameLength = codes "same_length"
+
+-- The points of a statement.
+abbrev pub points_of : Statement → List Place
+points_of statement.Identical = place.Point ∷ place.Point ∷ []
+points_of statement.Collinear = place.Point ∷ place.Point ∷ place.Point ∷ []
+points_of statement.Perpendicular = place.Point ∷ place.Point ∷ place.Point ∷ place.Point ∷ []
+points_of statement.Parallel = place.Point ∷ place.Point ∷ place.Point ∷ place.Point ∷ []
+points_of statement.Midpoint = place.Point ∷ place.Point ∷ place.Point ∷ []
+points_of statement.SameLength = place.Point ∷ place.Point ∷ place.Point ∷ place.Point ∷ []
+
+-- The places behind a word.
+abbrev pub places_of : Word → List Place
+places_of word.Dim = place.Number range.Picture ∷ place.Number range.Picture ∷ []
+places_of word.Color = place.Number range.Byte ∷ place.Number range.Byte ∷ place.Number range.Byte ∷ []
+places_of word.Prooflevel = place.Number range.Any ∷ []
+places_of word.Prooflimit = place.Number range.Any ∷ []
+places_of word.ProverTimeout = place.Number range.Any ∷ []
+places_of word.Point = place.NewPoint ∷ place.Number range.Any ∷ place.Number range.Any ∷ []
+places_of word.Line = place.NewLine ∷ place.Point ∷ place.Point ∷ []
+places_of word.Circle = place.NewCircle ∷ place.Point ∷ place.Point ∷ []
+places_of word.Intersec = place.NewPoint ∷ place.Line ∷ place.Line ∷ []
+places_of word.Intersec2 = place.NewPoint ∷ place.NewPoint ∷ place.Curve ∷ place.OtherCurve ∷ []
+places_of word.Midpoint = place.NewPoint ∷ place.Point ∷ place.Point ∷ []
+places_of word.Med = place.NewLine ∷ place.Point ∷ place.Point ∷ []
+places_of word.Perp = place.NewLine ∷ place.Point ∷ place.Line ∷ []
+places_of word.Parallel = place.NewLine ∷ place.Point ∷ place.Line ∷ []
+places_of word.Foot = place.NewPoint ∷ place.Point ∷ place.Line ∷ []
+places_of word.Online = place.NewPoint ∷ place.Point ∷ place.Point ∷ []
+places_of word.Oncircle = place.NewPoint ∷ place.Point ∷ place.Point ∷ []
+places_of word.Translate = place.NewPoint ∷ place.Point ∷ place.Point ∷ place.Point ∷ []
+places_of word.Towards = place.NewPoint ∷ place.Point ∷ place.Point ∷ place.Number range.Any ∷ []
+places_of word.Drawpoint = place.Point ∷ []
+places_of word.Drawsegment = place.Point ∷ place.Point ∷ []
+places_of word.Drawdashsegment = place.Point ∷ place.Point ∷ []
+places_of word.Drawline = place.Line ∷ []
+places_of word.Drawcircle = place.Circle ∷ []
+places_of word.Cmark = place.Point ∷ []
+places_of (word.CmarkAt s) = place.Point ∷ []
+places_of (word.Mark s) = place.Point ∷ []
+places_of (word.Prove s) = points_of s
+
+-- The sides that a word can name.
+abbrev pub sides : List Side
+sides = side.L ∷ side.R ∷ side.T ∷ side.B ∷ side.Lt ∷ side.Lb ∷ side.Rt ∷ side.Rb ∷ []
+
+-- The statements.
+abbrev pub statements : List Statement
+statements = statement.Identical ∷ statement.Collinear ∷ statement.Perpendicular ∷ statement.Parallel ∷ statement.Midpoint ∷ statement.SameLength ∷ []
+
+-- The words that stand alone in front of their arguments.
+abbrev pub words : List Word
+words =
+    word.Dim ∷ word.Color ∷ word.Prooflevel ∷ word.Prooflimit ∷ word.ProverTimeout ∷ word.Point ∷
+    word.Line ∷ word.Circle ∷ word.Intersec ∷ word.Intersec2 ∷ word.Midpoint ∷ word.Med ∷
+    word.Perp ∷ word.Parallel ∷ word.Foot ∷ word.Online ∷ word.Oncircle ∷ word.Translate ∷
+    word.Towards ∷ word.Drawpoint ∷ word.Drawsegment ∷ word.Drawdashsegment ∷ word.Drawline ∷ word.Drawcircle ∷
+    word.Cmark ∷ []
+    ++ map word.CmarkAt sides ++ map word.Mark (side.Centre ∷ sides)
+
+-- What the first token of a command can begin: one of these words, or a prove, whose statement stands behind its brace.
+abbrev pub heads : List Head
+heads = map head.Word words ++ head.Prove ∷ []
+
+abbrev pub head_text : Head → List ℕ
+head_text (head.Word w) = text_of w
+head_text head.Prove = codes "prove"
+
+-- The first of a list that is written as the text.
+unfoldable pub named : {X : Type 0} → (X → List ℕ) → List X → List ℕ → Option X
+named written [] text = None
+named written (x ∷ xs) text = if bytes_eq text (written x) then Some x else named written xs text
+
+unfoldable pub head_of : List ℕ → Option Head
+head_of text = named head_text heads text
+
+unfoldable pub statement_of : List ℕ → Option Statement
+statement_of text = named statement_text statements text
+
+-- Whether a range has a number of so many millionths: a whole byte, or a size that is 1 to 10^8 ticks when it is rounded to ticks.
+abbrev pub in_range : Range → ℤ → Bool
+in_range range.Any n = true
+in_range range.Byte (pos n) = nat_le n (255 * 10 ^ 6) && (n % 10 ^ 6 == 0)
+in_range range.Byte (negsuc n) = false
+in_range range.Picture n = int_le (pos 1) (ticks_of n) && int_le (ticks_of n) (pos (10 ^ 8))

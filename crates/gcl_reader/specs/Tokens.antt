@@ -1,0 +1,87 @@
+-- The tokens of a file, with their places.
+use Rattle.std.specs.Prelude.{ℕ, ◌+◌, List, [], ◌∷◌, length, Bool, false, if◌then◌else◌, ◌&&◌, ◌||◌, not, ◌==◌, nat_le, IsTrue}
+use Rattle.std.specs.List.{take_while}
+
+-- A token with its place. A byte that is no text is a token without text.
+pub record Token : Type 0 where
+  pub line : ℕ
+  pub at : ℕ
+  pub text : List ℕ
+
+-- a token's length in the file
+abbrev pub token_len : Token → ℕ
+token_len t = length t.text
+
+unfoldable pub is_blank : ℕ → Bool
+is_blank b = (b == 32) || (b == 9) || (b == 13) || (b == 10)
+
+unfoldable pub is_brace : ℕ → Bool
+is_brace b = (b == 123) || (b == 125)
+
+-- a byte of a word: 0x21 to 0x7E other than a percent sign and braces
+unfoldable pub is_word : ℕ → Bool
+is_word b = nat_le 33 b && nat_le b 126 && not (b == 37) && not (is_brace b)
+
+-- where a byte stands: between tokens, right behind a byte of a word, or in a comment
+pub data Mode : Type 0 where
+  Between : Mode
+  Inside : Mode
+  Comment : Mode
+
+-- the line of the byte behind b
+abbrev pub line_after : ℕ → ℕ → ℕ
+line_after b line = if b == 10 then line + 1 else line
+
+-- what stands behind the byte b
+abbrev pub mode_after : Mode → ℕ → Mode
+mode_after Comment b = if b == 10 then Between else Comment
+mode_after m b = if b == 37 then Comment else (if is_word b then Inside else Between)
+
+-- the longest token that begins with the byte b, in front of bs
+abbrev pub text_from : ℕ → List ℕ → List ℕ
+text_from b bs = if is_word b then (b ∷ take_while is_word bs) else (if is_brace b then b ∷ [] else [])
+
+-- whether a token begins with the byte b
+abbrev pub begins : Mode → ℕ → Bool
+begins Comment b = false
+begins Inside b = not (is_word b || is_blank b || (b == 37))
+begins Between b = not (is_blank b || (b == 37))
+
+-- the bytes have ended, or a token begins with the first
+abbrev pub begins_token : List ℕ → Type 0
+begins_token [] = Unit {0}
+begins_token (b ∷ bs) = IsTrue (begins Between b)
+
+-- The tokens that begin in the bytes from a place on.
+unfoldable pub tokens_from : Mode → ℕ → ℕ → List ℕ → List Token
+tokens_from m line at [] = []
+tokens_from m line at (b ∷ bs) =
+    if begins m b
+    then record { line = line; at = at; text = text_from b bs } ∷ tokens_from (mode_after m b) (line_after b line) (at + 1) bs
+    else tokens_from (mode_after m b) (line_after b line) (at + 1) bs
+
+-- the line of the last byte, where last is that of the byte before
+unfoldable pub last_line : ℕ → ℕ → List ℕ → ℕ
+last_line line last [] = last
+last_line line last (b ∷ bs) = last_line (line_after b line) line bs
+
+-- a file's tokens, and where it ends
+pub record Lexed : Type 0 where
+  pub tokens : List Token
+  pub end_line : ℕ
+  pub end_at : ℕ
+
+-- what is ahead of a place in a file
+abbrev pub ahead_of : Mode → ℕ → ℕ → ℕ → List ℕ → Lexed
+ahead_of m line last at bytes = record { tokens = tokens_from m line at bytes; end_line = last_line line last bytes; end_at = at + length bytes }
+
+-- a token in front of what is ahead of its end
+abbrev pub put : Token → Lexed → Lexed
+put t after = record after { tokens = t ∷ after.tokens }
+
+-- What a whole file has: its tokens, and its end.
+abbrev pub lexed : List ℕ → Lexed
+lexed bytes = ahead_of Between 1 1 0 bytes
+
+abbrev pub tokens : List ℕ → List Token
+tokens bytes = tokens_from Between 1 0 bytes

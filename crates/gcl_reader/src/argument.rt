@@ -1,0 +1,120 @@
+ghost use Rattle.std.specs.Prelude.{◌≡◌, ◌+◌, ◌≤◌, ◌<◌, ◌^◌, length};
+ghost use Rattle.gcl_reader.specs.Ahead.{ahead, token_of};
+ghost use Rattle.fixed_point.specs.Decimal.{fix_of};
+ghost use Rattle.gcl_reader.specs.Table.{in_range};
+ghost use Rattle.gcl_reader.specs.Grammar.{Gives, token_at, arg_with, number_in, name_in, arg_of, arg_at, refused};
+
+use crate::file::{Arg, What};
+use crate::lexer::{Lexeme, Lexer};
+use crate::name::Name;
+use crate::refusal::{GclFault, Kind, Refusal};
+use crate::word::{Place, Range};
+use fixed_point::{Fix, NumberFault, read_fix, ticks};
+
+/// The refusal of a token.
+pub fn refused(kind: Kind, token: Lexeme<'_>) -> Refusal
+    ensures { result ≡ refused kind (token_of token.entry) }
+{
+    Refusal {
+        line: token.line,
+        kind,
+        at: token.at,
+        len: token.text.len() as u32,
+    }
+}
+
+/// The next token, which is text.
+#[tactic(auto, unfolding(crate::specs::Grammar::token_at))]
+pub fn token_at<'a>(lexer: &mut Lexer<'a>) -> Result<Lexeme<'a>, GclFault>
+    ensures { Gives (λ t. (token_of t, ahead lexer.new)) result (token_at (ahead lexer.old)) }
+{
+    match lexer.next() {
+        Ok(token) => {
+            if token.text.is_empty() {
+                return Err(GclFault::Refused(refused(Kind::NotText, token)));
+            }
+            Ok(token)
+        }
+        Err(end) => Err(GclFault::Refused(Refusal {
+            line: end.line,
+            kind: Kind::EndInside,
+            at: end.at,
+            len: 0,
+        })),
+    }
+}
+
+/// Whether a range has a number.
+fn in_range(range: Range, number: Fix) -> bool
+    ensures { result ≡ in_range range number }
+{
+    match range {
+        Range::Any => true,
+        Range::Byte => {
+            let millionths = number.millionths();
+            0 <= millionths && millionths <= 255_000_000 && millionths % 1_000_000 == 0
+        }
+        Range::Picture => {
+            let ticks = ticks(number);
+            1 <= ticks && ticks <= 100_000_000
+        }
+    }
+}
+
+/// The argument at a token.
+fn arg_with(what: What, token: Lexeme<'_>) -> Arg
+    ensures { result ≡ arg_with what (token_of token.entry) }
+{
+    Arg {
+        line: token.line,
+        at: token.at,
+        len: token.text.len() as u32,
+        what,
+    }
+}
+
+fn name_in(token: Lexeme<'_>) -> Result<Arg, Refusal>
+    ensures { result ≡ name_in (token_of token.entry) }
+{
+    match Name::from_bytes(token.text) {
+        Some(name) => Ok(arg_with(What::Name(name), token)),
+        None => Err(refused(Kind::WantsName, token)),
+    }
+}
+
+fn number_in(range: Range, token: Lexeme<'_>) -> Result<Arg, Refusal>
+    ensures { result ≡ number_in range (token_of token.entry) (fix_of token.entry.text.now) }
+{
+    match read_fix(token.text) {
+        Ok(number) => {
+            if !in_range(range, number) {
+                return Err(refused(Kind::BadNumber, token));
+            }
+            Ok(arg_with(What::Number(number), token))
+        }
+        Err(NumberFault::NotNumber) => Err(refused(Kind::WantsNumber, token)),
+        Err(_) => Err(refused(Kind::BadNumber, token)),
+    }
+}
+
+/// What a token says in a place.
+pub fn arg_of(place: Place, token: Lexeme<'_>) -> Result<Arg, Refusal>
+    ensures { result ≡ arg_of place (token_of token.entry) }
+{
+    match place {
+        Place::Number(range) => number_in(range, token),
+        _ => name_in(token),
+    }
+}
+
+/// The next token in a place.
+#[tactic(auto, unfolding(crate::specs::Grammar::arg_at))]
+pub fn arg_at(place: Place, lexer: &mut Lexer<'_>) -> Result<Arg, GclFault>
+    ensures { Gives (λ a. (a, ahead lexer.new)) result (arg_at place (ahead lexer.old)) }
+{
+    let token = token_at(lexer)?;
+    match arg_of(place, token) {
+        Ok(arg) => Ok(arg),
+        Err(refusal) => Err(GclFault::Refused(refusal)),
+    }
+}

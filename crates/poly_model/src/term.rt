@@ -1,0 +1,72 @@
+ghost use Rattle.std.specs.Prelude.{◌≡◌};
+ghost use Rattle.poly_model.specs.Polynomial.{monomial_cmp};
+ghost use Rattle.poly_model.specs.Standard.{entry_of, polynomial_of, are_low, is_within, is_above, are_descending, is_standard};
+
+use crate::limits::{MOST_DEGREE, MOST_SIZE, MOST_TERMS, MOST_VARIABLES};
+use std::cmp::Ordering;
+
+/// A coefficient, and the exponents of the variables from the least to the greatest.
+#[derive(Clone, Copy, Debug, PartialEq, Eq)]
+pub struct Term {
+    pub coef: i128,
+    pub exps: [u8; MOST_VARIABLES],
+}
+
+/// Compares two monomials by the exponents of the greatest variable, the last, then by those of the next.
+pub fn compare_monomials(a: &[u8; MOST_VARIABLES], b: &[u8; MOST_VARIABLES]) -> Ordering
+    ensures { result ≡ monomial_cmp a.now b.now }
+{
+    let mut i = MOST_VARIABLES;
+    while i > 0 {
+        i -= 1;
+        let (x, y) = (a[i], b[i]);
+        if x < y {
+            return Ordering::Less;
+        }
+        if y < x {
+            return Ordering::Greater;
+        }
+    }
+    Ordering::Equal
+}
+
+fn are_low(exps: &[u8; MOST_VARIABLES]) -> bool
+    ensures { result ≡ are_low exps.now }
+{
+    exps.iter().all(|e| *e <= MOST_DEGREE)
+}
+
+impl Term {
+    fn is_within(&self) -> bool
+        ensures { result ≡ is_within (entry_of self.now) }
+    {
+        let size = self.coef.unsigned_abs();
+        0 < size && size <= MOST_SIZE && are_low(&self.exps)
+    }
+
+    fn is_above(&self, rest: &[Term]) -> bool
+        ensures { result ≡ is_above (entry_of self.now) (polynomial_of rest.now) }
+    {
+        match rest.first() {
+            None => true,
+            Some(next) => compare_monomials(&self.exps, &next.exps).is_gt(),
+        }
+    }
+}
+
+/// The terms are a polynomial within the limits.
+pub fn are_standard(terms: &[Term]) -> bool
+    ensures { result ≡ is_standard (polynomial_of terms.now) }
+{
+    if terms.len() > MOST_TERMS {
+        return false;
+    }
+    let mut rest = terms;
+    while let Some((first, tail)) = rest.split_first() {
+        if !first.is_within() || !first.is_above(tail) {
+            return false;
+        }
+        rest = tail;
+    }
+    true
+}
