@@ -8,7 +8,9 @@ use crate::writing::write_number;
 use desk_io::{Failed, Pen, Sink};
 use std::marker::Model;
 
-/// A number in millionths, of a size of at most a million. Contracts see its millionths.
+/// A decimal number with at most six decimals and a size of at most 1,000,000. Contracts see its millionths.
+///
+/// `read_fix` makes one; there is no other way.
 #[derive(Clone, Copy, Debug, PartialEq, Eq)]
 pub struct Fix {
     millionths: i64,

@@ -6,7 +6,7 @@ use crate::fault::NumberFault;
 use crate::fix::Fix;
 use crate::power::power_of_ten;
 
-/// Past every number that is asked for: ten times the greatest size in millionths.
+/// Where reading a long text stops counting: ten times the greatest size in millionths.
 const CAP: u64 = 10_000_000_000_000;
 
 fn is_digit(b: u8) -> bool
@@ -21,8 +21,8 @@ fn all_digits(text: &[u8]) -> bool
     text.iter().all(|b| is_digit(*b))
 }
 
-#[tactic(auto, using(crate::proofs::Capped::capped), unfolding(crate::specs::Decimal::value_from))]
 /// The number that digits spell behind a number, or the cap where it passes that.
+#[tactic(auto, using(crate::proofs::Capped::capped), unfolding(crate::specs::Decimal::value_from))]
 fn value_up_to_cap(start: u64, digits: &[u8]) -> u64
     requires digits { IsTrue (list_all is_digit digits.now) }
     requires start { start ≤ CAP }
@@ -67,8 +67,8 @@ fn split_point(text: &[u8]) -> (&[u8], &[u8])
     }
 }
 
-#[tactic(auto, using(crate::proofs::Capped::capped))]
 /// The size of a number in millionths, or more than the greatest.
+#[tactic(auto, using(crate::proofs::Capped::capped))]
 fn size_of_parts(whole: &[u8], decimals: &[u8]) -> u64
     requires whole { IsTrue (list_all is_digit whole.now) }
     requires decimals { IsTrue (list_all is_digit decimals.now) }
@@ -113,7 +113,9 @@ fn fix_of_parts(negative: bool, whole: &[u8], decimals: &[u8]) -> Result<Fix, Nu
     Ok(signed(negative, size))
 }
 
-/// The number that a text spells.
+/// The number that a text spells: a sign or none, and decimal digits with a point or none among or beside them.
+///
+/// The form is judged first, then the count of decimals, then the size; each has a fault of its own.
 pub fn read_fix(text: &[u8]) -> Result<Fix, NumberFault>
     ensures { result ≡ fix_of text.now }
 {

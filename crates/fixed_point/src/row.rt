@@ -2,7 +2,7 @@ ghost use Rattle.std.specs.Prelude.{◌≡◌, List};
 
 use std::marker::Model;
 
-/// A list of items, which contracts see as that list.
+/// A list of items that is not changed any more. It is what public types hold; contracts see the list.
 #[derive(Drop)]
 pub struct Row<T> {
     items: Vec<T>,

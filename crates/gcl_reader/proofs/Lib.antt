@@ -5,3 +5,6 @@ pub mod Bind
 pub mod Words
 pub mod Spelled
 pub mod ReadAgain
+pub mod Lines
+pub mod ShownAgain
+pub mod Pieces

@@ -1,19 +1,16 @@
 -- What the tokens spell, where it fits the table, is read by the grammar.
-use Rattle.std.proofs.Common.{◌≡◌, ℕ, ◌+◌, ◌-◌, ◌≤◌, ◌^◌, zero, suc, List, [], ◌∷◌, ◌++◌, length, Result, Ok, Err, Option, Some, None, Bool, true, false, cond, not, ◌==◌, nat_lt, refl, sym, ap, subst, ◌∙◌, arith, ℤ, pos, negsuc, IsTrue, append_assoc, codes}
-use Rattle.std.specs.Prelude.{unsigned_abs}
+use Rattle.std.proofs.Common.{◌≡◌, ℕ, ◌≤◌, zero, suc, List, [], ◌∷◌, ◌++◌, length, Ok, Option, Some, None, true, false, ◌==◌, refl, sym, ap, subst, ◌∙◌, arith, ℤ, append_assoc, codes}
 use Rattle.std.specs.Str.{bytes_eq}
 use Rattle.std.specs.List.{AllZip, AllByRecursion}
 use Rattle.std.proofs.lemmas.Bool.Decides.{nat_tests}
 use Rattle.std.proofs.lemmas.Slice.Eq.{bytes_eq-Decides}
-use Rattle.fixed_point.specs.Decimal.{fix_of, signed, unsigned_of, point_in, whole_at, decimals_at, is_negative, is_number, millionths}
-use Rattle.fixed_point.specs.declared.fault.NumberFault.{NumberFault}
-use Rattle.fixed_point.specs.declared.fault.NumberFault.TheVariants as number
+use Rattle.fixed_point.specs.Decimal.{fix_of}
 use Rattle.gcl_reader.specs.Tokens.{Token, Lexed, put}
 use Rattle.gcl_reader.specs.Name.{is_name}
-use Rattle.gcl_reader.specs.Table.{statement_text, text_of, head_of, statement_of, places_of, points_of, in_range}
-use Rattle.gcl_reader.specs.Grammar.{◌>>=◌, refused, token_at, arg_with, number_in, arg_of, arg_at, args_at, brace_at, statement_at, statement_or, word_at, close_at, command_at, head_or, first_at, commands_at}
-use Rattle.gcl_reader.specs.Fitting.{IsWord, FitsPlace, FitsTable, IsFitting}
-use Rattle.gcl_reader.specs.Spelling.{SaysValue, StandsAt, Says, statement_in, SpellsRest, SpellsCommand, Spells}
+use Rattle.gcl_reader.specs.Table.{statement_text, text_of, head_of, statement_of, places_of, points_of}
+use Rattle.gcl_reader.specs.Grammar.{token_at, arg_with, number_in, arg_of, arg_at, args_at, brace_at, statement_at, word_at, close_at, command_at, first_at, commands_at}
+use Rattle.gcl_reader.specs.Fitting.{IsWord, FitsPlace, FitsTable}
+use Rattle.gcl_reader.specs.Spelling.{SaysValue, StandsAt, Says, statement_in, SpellsRest, Spells}
 use Rattle.gcl_reader.specs.declared.word.Word.{Word}
 use Rattle.gcl_reader.specs.declared.word.Word.TheVariants as word
 use Rattle.gcl_reader.specs.declared.word.Side.TheVariants as side
@@ -23,9 +20,6 @@ use Rattle.gcl_reader.specs.declared.word.Head.{Head}
 use Rattle.gcl_reader.specs.declared.word.Head.TheVariants as head
 use Rattle.gcl_reader.specs.declared.word.Place.{Place}
 use Rattle.gcl_reader.specs.declared.word.Place.TheVariants as place
-use Rattle.gcl_reader.specs.declared.word.Range.{Range}
-use Rattle.gcl_reader.specs.declared.refusal.Kind.TheVariants as kind
-use Rattle.gcl_reader.specs.declared.refusal.Refusal.{Refusal}
 use Rattle.gcl_reader.specs.declared.file.What.TheVariants as what
 use Rattle.gcl_reader.specs.declared.file.Arg.{Arg}
 use Rattle.gcl_reader.specs.declared.file.Command.{Command}
@@ -39,12 +33,12 @@ IsText t = (length t.text == 0) ≡ false
 some-text : (t : Token) (b : ℕ) (bs : List ℕ) → t.text ≡ b ∷ bs → IsText t
 some-text t b bs e = rw e (grind (arith, nat_tests))
 
-name-is-text : (text : List ℕ) → is_name text ≡ true → (length text == 0) ≡ false
+pub name-is-text : (text : List ℕ) → is_name text ≡ true → (length text == 0) ≡ false
 unfolding is_name
 name-is-text [] h = cc
 name-is-text (b ∷ bs) h = grind (arith, nat_tests)
 
-number-is-text : (text : List ℕ) (n : ℤ) → fix_of text ≡ Ok n → (length text == 0) ≡ false
+pub number-is-text : (text : List ℕ) (n : ℤ) → fix_of text ≡ Ok n → (length text == 0) ≡ false
 number-is-text [] n h = cc
 number-is-text (b ∷ bs) n h = grind (arith, nat_tests)
 
@@ -95,7 +89,7 @@ brace-read b t y e =
     let same : bytes_eq t.text (b ∷ []) ≡ true = (bytes_eq-Decides t.text (b ∷ [])).1 e in
     rw (token, same) refl
 
-statement-is-text : (s : Statement) → (length (statement_text s) == 0) ≡ false
+pub statement-is-text : (s : Statement) → (length (statement_text s) == 0) ≡ false
 statement-is-text statement.Identical = refl
 statement-is-text s = refl
 
@@ -148,7 +142,7 @@ first-read : (t : Token) (x y : Lexed) (c : Command) → (length t.text == 0) �
 unfolding first_at
 first-read t x y c e r = rw (e, r.1) refl
 
-text-not-empty : (w : Word) → (length (text_of w) == 0) ≡ false
+pub text-not-empty : (w : Word) → (length (text_of w) == 0) ≡ false
 text-not-empty (word.Mark side.Centre) = refl
 text-not-empty (word.CmarkAt s) = grind (arith, nat_tests)
 text-not-empty (word.Mark s) = grind (arith, nat_tests)

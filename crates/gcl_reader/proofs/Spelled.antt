@@ -1,5 +1,5 @@
 -- What the grammar reads is spelled by the tokens, and fits the table.
-use Rattle.std.proofs.Common.{◌≡◌, ℕ, ◌+◌, ◌-◌, ◌≤◌, ◌^◌, zero, suc, List, [], ◌∷◌, ◌++◌, length, Result, Ok, Err, Option, Some, None, Bool, true, false, cond, not, ◌==◌, nat_lt, refl, sym, ap, subst, ◌∙◌, arith, ℤ, pos, negsuc, IsTrue, append_assoc, codes}
+use Rattle.std.proofs.Common.{◌≡◌, ℕ, ◌≤◌, ◌^◌, zero, suc, List, [], ◌∷◌, ◌++◌, length, Result, Ok, Err, Option, Some, None, Bool, true, false, not, ◌==◌, nat_lt, refl, sym, ap, subst, ◌∙◌, arith, ℤ, append_assoc}
 use Rattle.std.specs.Prelude.{unsigned_abs}
 use Rattle.std.specs.Str.{bytes_eq}
 use Rattle.std.specs.List.{AllZip, AllByRecursion}
@@ -10,10 +10,10 @@ use Rattle.fixed_point.specs.declared.fault.NumberFault.{NumberFault}
 use Rattle.fixed_point.specs.declared.fault.NumberFault.TheVariants as number
 use Rattle.gcl_reader.specs.Tokens.{Token, Lexed, put}
 use Rattle.gcl_reader.specs.Name.{is_name}
-use Rattle.gcl_reader.specs.Table.{statement_text, text_of, head_of, statement_of, places_of, points_of, in_range}
+use Rattle.gcl_reader.specs.Table.{statement_text, head_of, statement_of, places_of, points_of, in_range}
 use Rattle.gcl_reader.specs.Grammar.{◌>>=◌, refused, token_at, arg_with, number_in, arg_of, arg_at, args_at, brace_at, statement_at, statement_or, word_at, close_at, command_at, head_or, first_at, commands_at}
-use Rattle.gcl_reader.specs.Fitting.{IsWord, FitsPlace, FitsTable, IsFitting}
-use Rattle.gcl_reader.specs.Spelling.{StandsAt, Says, statement_in, SpellsRest, SpellsCommand, Spells}
+use Rattle.gcl_reader.specs.Fitting.{FitsPlace, FitsTable}
+use Rattle.gcl_reader.specs.Spelling.{Says, SpellsRest, SpellsCommand, Spells}
 use Rattle.gcl_reader.specs.declared.word.Word.{Word}
 use Rattle.gcl_reader.specs.declared.word.Word.TheVariants as word
 use Rattle.gcl_reader.specs.declared.word.Statement.{Statement}
@@ -164,6 +164,33 @@ read_as c y = Ok (c, y)
 abbrev Behind : Token → Word × Lexed → Command → Lexed → Type 0
 Behind t w c y = (args_at (places_of w.0) w.1 >>= λ a. close_at head.Prove a.1 >>= λ after. read_as (command_of t w.0 a.0) after) ≡ Ok (c, y)
 
+-- The braces, the statement and the points of a proof, one behind the other.
+
+closed-by : (t : Token) (x opened : Lexed) (named : Statement × Lexed) (args : List Arg × Lexed) (closed : Lexed) (c : Command) (y : Lexed) → IsHead t.text head.Prove →
+    brace_at 123 x ≡ Ok opened → statement_at opened ≡ Ok named → args_at (points_of named.0) named.1 ≡ Ok args → brace_at 125 args.1 ≡ Ok closed →
+    ◌≡◌ {A = Command × Lexed} (command_of t (word.Prove named.0) args.0, closed) (c, y) → CommandIn t x c y
+closed-by t x opened named args closed c y is e_open e_name e_args e_close e =
+    let o = brace-taken 123 x opened e_open in
+    let n = statement-taken opened named.0 named.1 e_name in
+    let z = brace-taken 125 args.1 closed e_close in
+    subst (λ (q : Command × Lexed). CommandIn t x q.0 q.1) e
+    (in-braces t o.0 n.0 z.0 named.0 x named.1 args.1 args.0 closed is (o.1 ∙ ap (put o.0) n.1) o.2 n.2 (args-taken (points_of named.0) named.1 args.0 args.1 e_args) z.1 z.2)
+
+named-by : (t : Token) (x opened : Lexed) (named : Statement × Lexed) (c : Command) (y : Lexed) → IsHead t.text head.Prove →
+    brace_at 123 x ≡ Ok opened → statement_at opened ≡ Ok named → Behind t (word.Prove named.0, named.1) c y → CommandIn t x c y
+unfolding close_at
+named-by t x opened named c y is e_open e_name rest =
+    let args = bind-ok (args_at (points_of named.0) named.1) _ _ rest in
+    let closed = bind-ok (close_at head.Prove args.0.1) _ _ args.2 in
+    closed-by t x opened named args.0 closed.0 c y is e_open e_name args.1 closed.1 (ok-is closed.2)
+
+opened-by : (t : Token) (x : Lexed) (w : Word × Lexed) (c : Command) (y : Lexed) → IsHead t.text head.Prove → word_at head.Prove x ≡ Ok w → Behind t w c y → CommandIn t x c y
+unfolding word_at
+opened-by t x w c y is e rest =
+    let opened = bind-ok (brace_at 123 x) _ _ e in
+    let named = bind-ok (statement_at opened.0) _ _ opened.2 in
+    named-by t x opened.0 named.0 c y is opened.1 named.1 (subst (λ (q : Word × Lexed). Behind t q c y) (sym (ok-is named.2)) rest)
+
 pub command-taken : (t : Token) (h : Head) (x : Lexed) (c : Command) (y : Lexed) → IsHead t.text h → command_at t h x ≡ Ok (c, y) → CommandIn t x c y
 unfolding command_at word_at close_at command_of
 command-taken t (head.Word w) x c y is e =
@@ -171,17 +198,7 @@ command-taken t (head.Word w) x c y is e =
     subst (λ (q : Command × Lexed). CommandIn t x q.0 q.1) (ok-is p.2) (alone t w x p.0.0 p.0.1 is (args-taken (places_of w) x p.0.0 p.0.1 p.1))
 command-taken t head.Prove x c y is e =
     let w = bind-ok (word_at head.Prove x) _ _ e in
-    let open_brace = bind-ok (brace_at 123 x) _ _ w.1 in
-    let name = bind-ok (statement_at open_brace.0) _ _ open_brace.2 in
-    let s = name.0.0 in
-    let rest : Behind t (word.Prove s, name.0.1) c y = subst (λ (q : Word × Lexed). Behind t q c y) (sym (ok-is name.2)) w.2 in
-    let args = bind-ok (args_at (points_of s) name.0.1) _ _ rest in
-    let close_brace = bind-ok (close_at head.Prove args.0.1) _ _ args.2 in
-    let o = brace-taken 123 x open_brace.0 open_brace.1 in
-    let n = statement-taken open_brace.0 s name.0.1 name.1 in
-    let z = brace-taken 125 args.0.1 close_brace.0 close_brace.1 in
-    subst (λ (q : Command × Lexed). CommandIn t x q.0 q.1) (ok-is close_brace.2)
-    (in-braces t o.0 n.0 z.0 s x name.0.1 args.0.1 args.0.0 close_brace.0 is (o.1 ∙ ap (put o.0) n.1) o.2 n.2 (args-taken (points_of s) name.0.1 args.0.0 args.0.1 args.1) z.1 z.2)
+    opened-by t x w.0 c y is w.1 w.2
 
 -- Commands.
 

@@ -6,6 +6,7 @@ use Rattle.gcl_reader.specs.declared.lexer.Lexeme.{Lexeme}
 use Rattle.gcl_reader.specs.declared.lexer.End.{End}
 use Rattle.gcl_reader.specs.declared.word.Head.{Head}
 
+-- A token of the code as one of the definitions.
 abbrev pub token_of : Lexeme → Token
 token_of t = record { line = t.line; at = t.at; text = t.text.now }
 
@@ -13,6 +14,7 @@ token_of t = record { line = t.line; at = t.at; text = t.text.now }
 abbrev pub ahead_in : Mode → Lexer → Lexed
 ahead_in m s = ahead_of m s.line s.last s.at s.rest.now
 
+-- What is ahead of a lexer between two calls.
 abbrev pub ahead : Lexer → Lexed
 ahead s = ahead_in Between s
 

@@ -29,5 +29,6 @@ FitsPlace p (what.Name name) = IsTrue (is_name name)
 abbrev pub FitsTable : Command → Type 0
 FitsTable c = IsWord c.word × AllZip (λ p (a : Arg). FitsPlace p a.what) (places_of c.word) c.args
 
+-- At most 20,000 commands, each of which fits the table.
 abbrev pub IsFitting : List Command → Type 0
 IsFitting commands = (length commands ≤ 20000) × AllByRecursion FitsTable commands

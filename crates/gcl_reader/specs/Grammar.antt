@@ -1,4 +1,4 @@
--- The file that a list of tokens spells, or the first token that offends.
+-- The commands of a file, or the refusal of the first token that offends: a grammar over the list of tokens.
 use Rattle.std.specs.Prelude.{◌≡◌, ℕ, zero, suc, List, [], ◌∷◌, length, Option, Some, None, Result, Ok, Err, if◌then◌else◌, ◌==◌, ℤ}
 use Rattle.std.specs.Str.{bytes_eq}
 use Rattle.gcl_reader.specs.Tokens.{Token, Lexed, lexed}
@@ -25,54 +25,61 @@ use Rattle.gcl_reader.specs.declared.file.What.TheVariants as what
 use Rattle.gcl_reader.specs.declared.file.Arg.{Arg}
 use Rattle.gcl_reader.specs.declared.file.Command.{Command}
 
+-- A step, and what follows where it does not refuse.
 infixl 10 ◌>>=◌
 abbrev pub ◌>>=◌ : {A B : Type 0} → Result A Refusal → (A → Result B Refusal) → Result B Refusal
 (Ok x) >>= f = f x
 (Err e) >>= f = Err e
 
--- What a function returned, seen by view, is what reading gives, unless memory ran out.
+-- A fault is the refusal that reading gives, or want of memory.
 abbrev pub Fails : {Y : Type 0} → GclFault → Result Y Refusal → Type 0
 Fails fault.OutOfMemory read = Unit {0}
 Fails (fault.Refused r) read = read ≡ Err r
 
+-- What a function returned, as a view shows it, is what reading gives, unless memory ran out.
 abbrev pub Gives : {X Y : Type 0} → (X → Y) → Result X GclFault → Result Y Refusal → Type 0
 Gives view (Ok x) read = read ≡ Ok (view x)
 Gives view (Err e) read = Fails e read
 
+-- The refusal of a token.
 abbrev pub refused : Kind → Token → Refusal
 refused k t = record { line = t.line; kind = k; at = t.at; len = length t.text }
 
--- the next token, which is text
+-- The next token: it may be missing, or be no text.
 unfoldable pub token_at : Lexed → Result (Token × Lexed) Refusal
 token_at x = elim x.tokens [
   | [] ↦ Err (record { line = x.end_line; kind = kind.EndInside; at = x.end_at; len = 0 })
   | ◌∷◌ t ts ↦ if length t.text == 0 then Err (refused kind.NotText t) else Ok (t, record x { tokens = ts })
 ]
 
+-- The argument at a token.
 abbrev pub arg_with : What → Token → Arg
 arg_with w t = record { line = t.line; at = t.at; len = length t.text; what = w }
 
+-- A number in a place: first its form is judged, then its decimals, its size and its range.
 abbrev pub number_in : Range → Token → Result ℤ NumberFault → Result Arg Refusal
 number_in r t (Ok n) = if in_range r n then Ok (arg_with (what.Number n) t) else Err (refused kind.BadNumber t)
 number_in r t (Err number.NotNumber) = Err (refused kind.WantsNumber t)
 number_in r t (Err number.TooLong) = Err (refused kind.BadNumber t)
 number_in r t (Err number.TooFar) = Err (refused kind.BadNumber t)
 
+-- A name in a place.
 abbrev pub name_in : Token → Result Arg Refusal
 name_in t = if is_name t.text then Ok (arg_with (what.Name t.text) t) else Err (refused kind.WantsName t)
 
--- a token in a place
+-- What a token says in a place.
 abbrev pub arg_of : Place → Token → Result Arg Refusal
 arg_of (place.Number r) t = number_in r t (fix_of t.text)
 arg_of _ t = name_in t
 
+-- The next token in a place.
 unfoldable pub arg_at : Place → Lexed → Result (Arg × Lexed) Refusal
 arg_at p x = do
   t ← token_at x
   a ← arg_of p t.0
   Ok (a, t.1)
 
--- a token in each place
+-- The next tokens, one in each place.
 unfoldable pub args_at : List Place → Lexed → Result (List Arg × Lexed) Refusal
 args_at [] x = Ok ([], x)
 args_at (p ∷ ps) x = do
@@ -80,12 +87,13 @@ args_at (p ∷ ps) x = do
   others ← args_at ps a.1
   Ok (a.0 ∷ others.0, others.1)
 
--- a brace
+-- The next token is the brace b.
 unfoldable pub brace_at : ℕ → Lexed → Result Lexed Refusal
 brace_at b x = do
   t ← token_at x
   if bytes_eq t.0.text (b ∷ []) then Ok t.1 else Err (refused kind.WantsBrace t.0)
 
+-- The next token names a statement.
 abbrev pub statement_or : Token → Option Statement → Result Statement Refusal
 statement_or t (Some s) = Ok s
 statement_or t None = Err (refused kind.UnknownStatement t)
@@ -96,7 +104,7 @@ statement_at x = do
   s ← statement_or t.0 (statement_of t.0.text)
   Ok (s, t.1)
 
--- the word of a command, with the statement behind the brace of prove
+-- The whole word of a command: that of a proof has its statement behind a brace.
 unfoldable pub word_at : Head → Lexed → Result (Word × Lexed) Refusal
 word_at (head.Word w) x = Ok (w, x)
 word_at head.Prove x = do
@@ -104,12 +112,12 @@ word_at head.Prove x = do
   s ← statement_at after
   Ok (word.Prove s.0, s.1)
 
--- the brace behind a statement
+-- The brace behind the points of a statement.
 unfoldable pub close_at : Head → Lexed → Result Lexed Refusal
 close_at (head.Word w) x = Ok x
 close_at head.Prove x = brace_at 125 x
 
--- what stands behind the first token of a command
+-- The command that begins with the token t.
 unfoldable pub command_at : Token → Head → Lexed → Result (Command × Lexed) Refusal
 command_at t h x = do
   w ← word_at h x
@@ -117,18 +125,18 @@ command_at t h x = do
   after ← close_at h a.1
   Ok (record { word = w.0; line = t.line; at = t.at; len = length t.text; args = a.0 }, after)
 
+-- The next token begins a command, or there is none.
 abbrev pub head_or : Token → Lexed → Option Head → Result (Option (Token × Head × Lexed)) Refusal
 head_or t x (Some h) = Ok (Some (t, h, x))
 head_or t x None = Err (refused kind.UnknownCommand t)
 
--- the first token of a command, where one begins
 unfoldable pub first_at : Lexed → Result (Option (Token × Head × Lexed)) Refusal
 first_at x = elim x.tokens [
   | [] ↦ Ok None
   | ◌∷◌ t ts ↦ if length t.text == 0 then Err (refused kind.NotText t) else head_or t (record x { tokens = ts }) (head_of t.text)
 ]
 
--- at most n commands
+-- All commands up to the end of the file, at most n of them.
 unfoldable pub commands_at : ℕ → Lexed → Result (List Command) Refusal
 commands_at zero x = first_at x >>= λ f. elim f [ None ↦ Ok [] | Some first ↦ Err (refused kind.TooManyCommands first.0) ]
 commands_at (suc n) x = first_at x >>= λ f. elim f [
@@ -136,5 +144,6 @@ commands_at (suc n) x = first_at x >>= λ f. elim f [
   | Some first ↦ command_at first.0 first.1 first.2 >>= λ c. commands_at n c.1 >>= λ others. Ok (c.0 ∷ others)
 ]
 
+-- What a file of these bytes is read as.
 abbrev pub file_of : List ℕ → Result (List Command) Refusal
 file_of bytes = commands_at 20000 (lexed bytes)

@@ -5,3 +5,4 @@ pub mod Tokens
 pub mod Ahead
 pub mod Fitting
 pub mod Spelling
+pub mod Show

@@ -1,17 +1,20 @@
--- What a name is.
+-- Which texts are names.
 use Rattle.std.specs.Prelude.{ℕ, List, [], ◌∷◌, length, Bool, false, if◌then◌else◌, ◌&&◌, ◌||◌, ◌==◌, nat_le, Option, Some, None}
 use Rattle.std.specs.List.{list_all}
 
+-- A to Z, a to z.
 abbrev pub is_letter : ℕ → Bool
 is_letter b = (nat_le 65 b && nat_le b 90) || (nat_le 97 b && nat_le b 122)
 
+-- A letter, a digit, an underscore or an apostrophe.
 abbrev pub is_name_byte : ℕ → Bool
 is_name_byte b = is_letter b || (nat_le 48 b && nat_le b 57) || (b == 95) || (b == 39)
 
--- a letter, and at most 31 letters, digits, underscores and apostrophes
+-- A letter, and at most 31 letters, digits, underscores and apostrophes.
 unfoldable pub is_name : List ℕ → Bool
 is_name [] = false
 is_name (b ∷ bs) = is_letter b && nat_le (length bs) 31 && list_all is_name_byte bs
 
+-- The name that a text is, if it is one.
 abbrev pub name_of : List ℕ → Option (List ℕ)
 name_of text = if is_name text then Some text else None

@@ -108,7 +108,7 @@ places_of (word.CmarkAt s) = place.Point ∷ []
 places_of (word.Mark s) = place.Point ∷ []
 places_of (word.Prove s) = points_of s
 
--- The sides that a word can name.
+-- The eight sides.
 abbrev pub sides : List Side
 sides = side.L ∷ side.R ∷ side.T ∷ side.B ∷ side.Lt ∷ side.Lb ∷ side.Rt ∷ side.Rb ∷ []
 
@@ -130,6 +130,7 @@ words =
 abbrev pub heads : List Head
 heads = map head.Word words ++ head.Prove ∷ []
 
+-- How the first token is written.
 abbrev pub head_text : Head → List ℕ
 head_text (head.Word w) = text_of w
 head_text head.Prove = codes "prove"
@@ -139,9 +140,11 @@ unfoldable pub named : {X : Type 0} → (X → List ℕ) → List X → List ℕ
 named written [] text = None
 named written (x ∷ xs) text = if bytes_eq text (written x) then Some x else named written xs text
 
+-- What a first token begins.
 unfoldable pub head_of : List ℕ → Option Head
 head_of text = named head_text heads text
 
+-- The statement that a token names.
 unfoldable pub statement_of : List ℕ → Option Statement
 statement_of text = named statement_text statements text
 

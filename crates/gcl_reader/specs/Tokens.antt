@@ -8,46 +8,44 @@ pub record Token : Type 0 where
   pub at : ℕ
   pub text : List ℕ
 
--- a token's length in the file
-abbrev pub token_len : Token → ℕ
-token_len t = length t.text
-
+-- Space, tab, carriage return and line feed part tokens.
 unfoldable pub is_blank : ℕ → Bool
 is_blank b = (b == 32) || (b == 9) || (b == 13) || (b == 10)
 
+-- A brace is a token of its own.
 unfoldable pub is_brace : ℕ → Bool
 is_brace b = (b == 123) || (b == 125)
 
--- a byte of a word: 0x21 to 0x7E other than a percent sign and braces
+-- Every other token is a run of these: visible ASCII characters other than a percent sign and braces.
 unfoldable pub is_word : ℕ → Bool
 is_word b = nat_le 33 b && nat_le b 126 && not (b == 37) && not (is_brace b)
 
--- where a byte stands: between tokens, right behind a byte of a word, or in a comment
+-- Where a byte stands: between tokens, right behind a byte of such a run, or in a comment.
 pub data Mode : Type 0 where
   Between : Mode
   Inside : Mode
   Comment : Mode
 
--- the line of the byte behind b
+-- The line of the byte behind b: a line feed belongs to the line that it ends.
 abbrev pub line_after : ℕ → ℕ → ℕ
 line_after b line = if b == 10 then line + 1 else line
 
--- what stands behind the byte b
+-- Where the byte behind b stands: a comment begins with a percent sign and ends before a line feed.
 abbrev pub mode_after : Mode → ℕ → Mode
 mode_after Comment b = if b == 10 then Between else Comment
 mode_after m b = if b == 37 then Comment else (if is_word b then Inside else Between)
 
--- the longest token that begins with the byte b, in front of bs
+-- The longest token that begins with the byte b, in front of bs.
 abbrev pub text_from : ℕ → List ℕ → List ℕ
 text_from b bs = if is_word b then (b ∷ take_while is_word bs) else (if is_brace b then b ∷ [] else [])
 
--- whether a token begins with the byte b
+-- Whether a token begins with the byte b.
 abbrev pub begins : Mode → ℕ → Bool
 begins Comment b = false
 begins Inside b = not (is_word b || is_blank b || (b == 37))
 begins Between b = not (is_blank b || (b == 37))
 
--- the bytes have ended, or a token begins with the first
+-- The bytes have ended, or a token begins with the first.
 abbrev pub begins_token : List ℕ → Type 0
 begins_token [] = Unit {0}
 begins_token (b ∷ bs) = IsTrue (begins Between b)
@@ -60,22 +58,22 @@ tokens_from m line at (b ∷ bs) =
     then record { line = line; at = at; text = text_from b bs } ∷ tokens_from (mode_after m b) (line_after b line) (at + 1) bs
     else tokens_from (mode_after m b) (line_after b line) (at + 1) bs
 
--- the line of the last byte, where last is that of the byte before
+-- The line of the last byte, where `last` is that of the byte before.
 unfoldable pub last_line : ℕ → ℕ → List ℕ → ℕ
 last_line line last [] = last
 last_line line last (b ∷ bs) = last_line (line_after b line) line bs
 
--- a file's tokens, and where it ends
+-- The tokens of a file, and its end: the line of the last byte, and the length.
 pub record Lexed : Type 0 where
   pub tokens : List Token
   pub end_line : ℕ
   pub end_at : ℕ
 
--- what is ahead of a place in a file
+-- What is ahead of a place in a file.
 abbrev pub ahead_of : Mode → ℕ → ℕ → ℕ → List ℕ → Lexed
 ahead_of m line last at bytes = record { tokens = tokens_from m line at bytes; end_line = last_line line last bytes; end_at = at + length bytes }
 
--- a token in front of what is ahead of its end
+-- A token in front of what is ahead of its end.
 abbrev pub put : Token → Lexed → Lexed
 put t after = record after { tokens = t ∷ after.tokens }
 

@@ -66,6 +66,16 @@ impl Name {
         })
     }
 
+    /// The same name again.
+    pub fn copy(&self) -> Name
+        ensures { result ≡ self.now }
+    {
+        Name {
+            bytes: self.bytes,
+            len: self.len,
+        }
+    }
+
     pub fn bytes(&self) -> &[u8]
         ensures value { result.now ≡ self.now }
         ensures form { IsTrue (is_name result.now) }

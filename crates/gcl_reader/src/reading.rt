@@ -131,7 +131,8 @@ fn commands_at(alloc: Global, lexer: &mut Lexer<'_>) -> Result<Vec<Command>, Gcl
         let Some((token, head)) = first_at(lexer)? else {
             return Ok(commands);
         };
-        if commands.len() == MOST_COMMANDS {
+        let full = commands.len() == MOST_COMMANDS;
+        if full {
             return Err(GclFault::Refused(refused(Kind::TooManyCommands, token)));
         }
         let command = command_at(alloc, token, head, lexer)?;

@@ -1,5 +1,6 @@
 // That the definitions say what is meant, and that each call succeeds with memory at hand.
 use super::*;
+use desk_io::{MemSink, Pen};
 use std::alloc::Global;
 use std::process::Abort;
 use std::test::Fail;
@@ -195,6 +196,22 @@ fn each_command() -> [(&'static [u8], Word); 48] {
     ]
 }
 
+// The file has each command once, command k on line k.
+fn check_each_command(rt: &impl Abort, file: &File) {
+    let commands = file.commands.as_slice();
+    let cases = each_command();
+    assert!(rt; commands.len() == 48);
+    for index in 0..48 {
+        let command = &commands[index];
+        let (_, word) = cases[index];
+        assert!(rt; command.word == word, "command {index} is another word");
+        assert!(rt;
+            command.line as usize == index + 1,
+            "command {index} is on another line"
+        );
+    }
+}
+
 #[test]
 fn each_word_is_read(rt: HostRuntime) -> Result<(), Fail> {
     let alloc = rt.alloc();
@@ -204,17 +221,9 @@ fn each_word_is_read(rt: HostRuntime) -> Result<(), Fail> {
         text.extend_from_slice(b" % note\n")?;
     }
     assert!(rt; text.len() <= 1_048_576);
-    let Ok(file) = read(alloc, &text) else {
-        assert!(rt; false, "refused");
-        return Ok(());
-    };
-    let commands = file.commands.as_slice();
-    assert_eq!(rt; commands.len(), 48);
-    let mut line = 0;
-    for (command, (_, word)) in commands.iter().zip(each_command()) {
-        line += 1;
-        assert_eq!(rt; command.line, line);
-        assert!(rt; command.word == word, "line {line} is read as another word");
+    match read(alloc, &text) {
+        Ok(file) => check_each_command(&rt, &file),
+        Err(_) => assert!(rt; false, "refused"),
     }
     Ok(())
 }
@@ -234,10 +243,69 @@ fn arguments_have_values_and_places(rt: HostRuntime) {
         assert!(rt; false, "not four arguments");
         return;
     };
-    assert!(rt; matches!(&x.what, What::Name(name) if name.bytes() == b"X'".as_slice()));
+    assert!(rt; matches!(&x.what, What::Name(name) if name.copy().bytes() == b"X'".as_slice()));
     assert!(rt; x.line == 2 && x.at == 13 && x.len == 2);
     assert!(rt; matches!(&a.what, What::Name(name) if name.bytes() == b"A".as_slice()));
     assert!(rt; matches!(&ratio.what, What::Number(number) if number.millionths() == -1_500_000));
     assert!(rt; ratio.at == 20 && ratio.len == 5);
     assert!(rt; Name::from_bytes(b"A b").is_none());
+}
+
+// Reads a text and shows it.
+fn shown(rt: &(impl Abort + AllocGlobal), text: &[u8]) -> Result<MemSink, Fail> {
+    let alloc = rt.alloc();
+    assert!(rt; text.len() <= 1_048_576);
+    let mut sink = MemSink::new(alloc, 10_000, Vec::new(alloc))?;
+    match read(alloc, text) {
+        Ok(file) => {
+            let mut pen = Pen::open(alloc)?;
+            let answer = show(&file, &mut pen, &mut sink);
+            let closed = pen.close(&mut sink);
+            assert!(rt; answer.is_ok() && closed.is_ok());
+        }
+        Err(_) => assert!(rt; false, "refused"),
+    }
+    Ok(sink)
+}
+
+#[test]
+fn files_are_shown(rt: HostRuntime) -> Result<(), Fail> {
+    let cases: [(&[u8], &[u8]); 5] = [
+        (b" point  A 1.50 -0 % x", b"point A 1.5 0\n"),
+        (b"", b""),
+        (
+            b"mark A\tmark_lt B\r\n\ncmark_r C",
+            b"mark A\nmark_lt B\ncmark_r C\n",
+        ),
+        (b"prove{collinear A B C}", b"prove { collinear A B C }\n"),
+        (
+            b"towards X A\nB -.000001 color +1 2. 003",
+            b"towards X A B -0.000001\ncolor 1 2 3\n",
+        ),
+    ];
+    for (text, want) in cases {
+        let sink = shown(&rt, text)?;
+        assert_eq!(rt; sink.bytes(), want);
+    }
+    Ok(())
+}
+
+#[test]
+fn what_is_shown_is_read_as_the_same(rt: HostRuntime) -> Result<(), Fail> {
+    let alloc = rt.alloc();
+    let mut text = Vec::new(alloc);
+    for (command, _) in each_command() {
+        text.extend_from_slice(command)?;
+        text.extend_from_slice(b" ")?;
+    }
+    let first = shown(&rt, &text)?;
+    let again = shown(&rt, first.bytes())?;
+    let written = first.bytes();
+    assert_eq!(rt; again.bytes(), written);
+    assert!(rt; written.len() <= 1_048_576);
+    match read(alloc, written) {
+        Ok(file) => check_each_command(&rt, &file),
+        Err(_) => assert!(rt; false, "refused"),
+    }
+    Ok(())
 }

@@ -1,5 +1,6 @@
 -- Polynomials with whole coefficients: finite maps from exponent lists to whole numbers, written as lists of entries.
-use Rattle.std.specs.Prelude.{◌≡◌, ◌≢◌, ℕ, ◌+◌, length, zero, suc, ℤ, pos, negsuc, ◌+ℤ◌, ◌*ℤ◌, neg_ℤ, List, [], ◌∷◌, replicate, set}
+use Rattle.std.specs.Prelude.{◌≡◌, ◌≢◌, ℕ, ◌+◌, length, zero, suc, ℤ, pos, negsuc, ◌+ℤ◌, ◌*ℤ◌, neg_ℤ, List, [], ◌∷◌, replicate, set, drop, Bool, nat_eq}
+use Rattle.std.specs.List.{list_all}
 use Rattle.std.specs.Ordering.{nat_cmp, ordering_then}
 use Rattle.std.specs.declared.cmp.Ordering.{Ordering}
 use Rattle.std.specs.declared.cmp.Ordering.TheVariants.{Less, Equal, Greater}
@@ -29,6 +30,10 @@ IsAbove es ((fs, d) ∷ p) = (monomial_cmp es fs ≡ Greater) × IsAbove es p
 abbrev pub IsDescending : ℕ → Polynomial → Type 0
 IsDescending n [] = Unit {0}
 IsDescending n ((es, c) ∷ p) = (length es ≡ n) × (c ≢ pos 0) × IsAbove es p × IsDescending n p
+
+-- Only the first n variables occur.
+abbrev pub is_over : ℕ → Polynomial → Bool
+is_over n = list_all (λ entry. list_all (λ e. nat_eq e 0) (drop n entry.0))
 
 -- The sum over the entries of what a function gives for each.
 abbrev pub sum_over : {M : Type 0} → Operations M → (List ℕ → ℤ → M) → Polynomial → M

@@ -56,6 +56,7 @@ impl Vars {
     /// The number of variables.
     pub fn len(&self) -> usize
         ensures len { result ≡ length self.now }
+        ensures within { result ≤ MOST_VARIABLES }
         ensures numbered { IsTrue (are_variables self.now) }
     {
         self.len as usize

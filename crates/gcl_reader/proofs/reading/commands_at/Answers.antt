@@ -19,10 +19,10 @@ returns-in_default c = let s = c.loop-commands in
     commands-done (MOST_COMMANDS - vec_len s.commands) s.commands.items (ahead s.lexer) (commands_at MOST_COMMANDS (ahead c.args.lexer.now))
     (c.in_ok-token.ensures ∙ ap (λ (f : Option (Lexeme × Head)). Ok (first_of f (ahead c.first_at.new.lexer))) c.in_default.is) s.invariant.1
 
-pub returns-then-len-eq-MOST_COMMANDS : goal.returns-then-len-eq-MOST_COMMANDS
-returns-then-len-eq-MOST_COMMANDS c = let s = c.loop-commands in
+pub returns-then-full : goal.returns-then-full
+returns-then-full c = let s = c.loop-commands in
     rw c.refused.ensures (commands-many MOST_COMMANDS (vec_len s.commands) s.commands.items (ahead s.lexer) (token_of c.in-Some.token) c.in-Some.head (ahead c.first_at.new.lexer) (commands_at MOST_COMMANDS (ahead c.args.lexer.now))
-    (sym c.len.ensures ∙ c.if-len-eq-MOST_COMMANDS.true)
+    (sym c.len-full.ensures ∙ c.if-full.true)
     (c.in_ok-token.ensures ∙ ap (λ (f : Option (Lexeme × Head)). Ok (first_of f (ahead c.first_at.new.lexer))) c.in-Some.is) s.invariant.1)
 
 pub returns-in_err-command : goal.returns-in_err-command

@@ -1,0 +1,8 @@
+pub mod Entries
+pub mod Front
+pub mod Kept
+pub mod Rising
+pub mod Below
+pub mod Fit
+pub mod Deeds
+pub mod SoundActs

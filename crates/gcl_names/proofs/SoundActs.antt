@@ -1,0 +1,121 @@
+-- A fitting file resolves to a sound program.
+use Rattle.std.proofs.Common.{◌≡◌, ℕ, ◌+◌, ◌<◌, List, [], ◌∷◌, length, Option, Some, None, option_map, Bool, true, false, cond, nat_le, Result, Ok, Err, refl, ap, sym, subst, ◌∙◌, arith}
+use Rattle.std.specs.List.{AllByRecursion}
+use Rattle.std.proofs.lemmas.Bool.Decides.{nat_tests}
+use Rattle.gcl_reader.specs.Fitting.{IsFitting, FitsTable}
+use Rattle.gcl_reader.specs.Table.{places_of}
+use Rattle.gcl_reader.proofs.Bind.{bind-ok, ok-is}
+use Rattle.gcl_reader.specs.declared.refusal.Refusal.{Refusal}
+use Rattle.gcl_reader.specs.declared.word.Word.{Word}
+use Rattle.gcl_reader.specs.declared.word.Word.TheVariants as word
+use Rattle.gcl_reader.specs.declared.file.Command.{Command}
+use Rattle.gcl_names.specs.Scope.{nothing_defined}
+use Rattle.gcl_names.specs.Sound.{Counts, Follows, after, AllFollow, after_all, IsSound}
+use Rattle.gcl_names.specs.Reference.{refs_in}
+use Rattle.gcl_names.specs.Deed.{deed_of}
+use Rattle.gcl_names.specs.Program.{counted, act_with, act_in, put, acts_in, resolved}
+use Rattle.gcl_names.specs.declared.meaning.Meaning.{Meaning}
+use Rattle.gcl_names.specs.declared.scope.Scope.{Scope}
+use Rattle.gcl_names.specs.declared.program.Deed.{Deed}
+use Rattle.gcl_names.specs.declared.program.Act.{Act}
+use Rattle.gcl_names.specs.declared.program.Program.{Program}
+use Rattle.gcl_names.proofs.Below.{AllBelow, all-grow}
+use Rattle.gcl_names.proofs.Rising.{more-proves}
+use Rattle.gcl_names.proofs.Fit.{counts_of, Holds, EachFit, refs-fit}
+use Rattle.gcl_names.proofs.Deeds.{DeedFollows, started, deeds-follow}
+
+-- What counting the proves leaves.
+abbrev Started : Word → Scope → Scope → Type 0
+Started w s start = (counts_of start ≡ started w (counts_of s)) × (start.names ≡ s.names) × Holds start
+
+started-prove : (s start : Scope) (e : Refusal) (b : Bool) → nat_le 16 s.proves ≡ b → Holds s → cond b (Err e) (Ok (record s { proves = s.proves + 1 })) ≡ Ok start →
+    (counts_of start ≡ record (counts_of s) { proves = s.proves + 1 }) × (start.names ≡ s.names) × Holds start
+started-prove s start e true t holds h = cc
+started-prove s start e false t holds h =
+    let lt : s.proves < 16 = grind (arith, nat_tests) in
+    let made : Scope = record s { proves = s.proves + 1 } in
+    let is : made ≡ start = ok-is h in
+    let grown : AllBelow (counts_of made) s.names = all-grow (counts_of s) (counts_of made) s.names (more-proves (counts_of s) 1) holds.below in
+    subst (λ (x : Scope). (counts_of x ≡ record (counts_of s) { proves = s.proves + 1 }) × (x.names ≡ s.names) × Holds x) is
+    (refl, refl, record { below = grown; points = holds.points; proves = omega (arith, lt) })
+
+started-same : (w : Word) (s start : Scope) → Holds s → ◌≡◌ {A = Result Scope Refusal} (Ok s) (Ok start) → counts_of s ≡ started w (counts_of s) → Started w s start
+started-same w s start holds h same =
+    subst (λ (x : Scope). Started w s x) (ok-is h) (same, refl, holds)
+
+counted-starts : (c : Command) (w : Word) (s start : Scope) → Holds s → counted c w s ≡ Ok start → Started w s start
+counted-starts c (word.Prove q) s start holds h = started-prove s start _ (nat_le 16 s.proves) refl holds h
+counted-starts c w s start holds h = started-same w s start holds h refl
+
+-- A command of a fitting file has an act, which follows the counts and leaves those of the scope behind it.
+abbrev ActFollows : Counts → Option Act → Counts → Type 0
+ActFollows n None left = ⊥
+ActFollows n (Some a) left = Follows n a.deed × (left ≡ after n a.deed)
+
+act-of : (c : Command) (n left : Counts) (d : Option Deed) → DeedFollows n d left → ActFollows n (option_map (act_with c) d) left
+act-of c n left None h = h
+act-of c n left (Some d) h = h
+
+act-follows : (c : Command) (s after : Scope) (a : Option Act) → FitsTable c → Holds s → act_in c s ≡ Ok (a, after) → ActFollows (counts_of s) a (counts_of after) × Holds after
+unfolding act_in
+act-follows c s after a fits holds h =
+    let one = bind-ok (counted c c.word s) _ (a, after) h in
+    let start = one.0 in
+    let begun = counted-starts c c.word s start holds one.1 in
+    let two = bind-ok (refs_in (places_of c.word) c.args start.names false start) _ (a, after) one.2 in
+    let e : ◌≡◌ {A = Option Act × Scope} (option_map (act_with c) (deed_of c.word two.0.0), two.0.1) (a, after) = ok-is two.2 in
+    let n = counts_of s in
+    let all : AllBelow n start.names = subst (λ (x : List (List ℕ × Meaning)). AllBelow n x) (sym begun.1) holds.below in
+    let each = subst (λ (x : Counts). EachFit (places_of c.word) n false x (λ refs left. DeedFollows n (deed_of c.word refs) left)) (sym begun.0) (deeds-follow c.word n fits.0) in
+    let got = refs-fit (places_of c.word) c.args n start.names false start two.0.1 two.0.0 (λ refs left. DeedFollows n (deed_of c.word refs) left) all fits.1 begun.2 each two.1 in
+    subst (λ (x : Option Act × Scope). ActFollows n x.0 (counts_of x.1) × Holds x.1) e
+    (act-of c n (counts_of two.0.1) (deed_of c.word two.0.0) got.0, got.1)
+
+-- All acts follow those before them, one for each command.
+abbrev ActsFollow : Scope → List Command → List Act → Scope → Type 0
+ActsFollow s commands acts last =
+    AllFollow (counts_of s) acts × (after_all (counts_of s) acts ≡ counts_of last) × (length acts ≡ length commands) × Holds last
+
+put-follows : (s behind last : Scope) (c : Command) (commands : List Command) (a : Option Act) (acts : List Act) → ActFollows (counts_of s) a (counts_of behind) → ActsFollow behind commands acts last → ActsFollow s (c ∷ commands) (put a acts) last
+unfolding AllFollow after_all
+put-follows s behind last c commands None acts first rest = absurd first
+put-follows s behind last c commands (Some a) acts first rest = (
+  (first.0, subst (λ (x : Counts). AllFollow x acts) first.1 rest.0),
+  ap (λ (x : Counts). after_all x acts) (sym first.1) ∙ rest.1,
+  omega (arith, rest.2),
+  rest.3,
+)
+
+acts-follow : (commands : List Command) (s last : Scope) (acts : List Act) → AllByRecursion FitsTable commands → Holds s → acts_in commands s ≡ Ok (acts, last) → ActsFollow s commands acts last
+unfolding acts_in AllFollow after_all
+acts-follow [] s last acts fits holds h =
+    let e : ◌≡◌ {A = List Act × Scope} ([], s) (acts, last) = ok-is h in
+    subst (λ (x : List Act × Scope). ActsFollow s [] x.0 x.1) e (tt, refl, refl, holds)
+acts-follow (c ∷ commands) s last acts fits holds h =
+    let one = bind-ok (act_in c s) _ (acts, last) h in
+    let first = act-follows c s one.0.1 one.0.0 fits.0 holds one.1 in
+    let others = bind-ok (acts_in commands one.0.1) _ (acts, last) one.2 in
+    let rest = acts-follow commands one.0.1 others.0.1 others.0.0 fits.1 first.1 others.1 in
+    let e : ◌≡◌ {A = List Act × Scope} (put one.0.0 others.0.0, others.0.1) (acts, last) = ok-is others.2 in
+    subst (λ (x : List Act × Scope). ActsFollow s (c ∷ commands) x.0 x.1) e
+    (put-follows s one.0.1 others.0.1 c commands one.0.0 others.0.0 first.0 rest)
+
+nothing-holds : Holds nothing_defined
+unfolding AllBelow
+nothing-holds = record { below = tt; points = omega arith; proves = omega arith }
+
+-- What a fitting file resolves to is sound.
+pub resolved-sound : (commands : List Command) (p : Program) → IsFitting commands → resolved commands ≡ Ok p → IsSound p
+unfolding resolved
+resolved-sound commands p fits h =
+    let one = bind-ok (acts_in commands nothing_defined) _ p h in
+    let acts = one.0.0 in
+    let last = one.0.1 in
+    let follow = acts-follow commands nothing_defined last acts fits.1 nothing-holds one.1 in
+    subst (λ (x : Program). IsSound x) (ok-is one.2) (record {
+      follow = follow.0;
+      counts = follow.1;
+      acts = omega (arith, follow.2, fits.0);
+      points = follow.3.points;
+      proves = follow.3.proves;
+    })

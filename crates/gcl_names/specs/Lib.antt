@@ -1,0 +1,7 @@
+pub mod Limits
+pub mod Scope
+pub mod View
+pub mod Deed
+pub mod Reference
+pub mod Program
+pub mod Sound

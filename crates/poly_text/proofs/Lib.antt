@@ -1,0 +1,8 @@
+pub mod Numbers
+pub mod Factors
+pub mod Exponents
+pub mod Entries
+pub mod Unique
+pub mod Progress
+pub mod Going
+pub mod Parts

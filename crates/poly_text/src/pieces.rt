@@ -1,0 +1,105 @@
+ghost use Rattle.std.specs.Prelude.{◌≡◌, ◌<◌, ◌≤◌, ◌^◌, ℕ, List, Option, Some, None, MatchOption, IfSome};
+ghost use Rattle.poly_text.specs.Text.{letter, number, is_left_out};
+ghost use Rattle.poly_text.specs.Reading.{is_digit, number_from, begins_number, number_at, behind, name_at, exponent_at, joint_at, factor_at};
+
+use poly_model::{MOST_DEGREE, VarName};
+
+fn is_digit(b: u8) -> bool
+    ensures { result ≡ is_digit b }
+{
+    b'0' <= b && b <= b'9'
+}
+
+fn begins_number(text: &[u8]) -> bool
+    ensures { result ≡ begins_number text.now }
+{
+    match text {
+        [] => false,
+        [b] => is_digit(*b),
+        [b, c, ..] => is_digit(*b) && !(*b == b'0' && is_digit(*c)),
+    }
+}
+
+/// The text behind a byte, if it stands first.
+fn behind(byte: u8, text: &[u8]) -> Option<&[u8]>
+    ensures { MatchOption result (behind byte text.now ≡ None) (λ rest. behind byte text.now ≡ Some rest.now) }
+{
+    match text {
+        [b, rest @ ..] if *b == byte => Some(rest),
+        _ => None,
+    }
+}
+
+/// The number that stands first, if it is spelled as it should be and not too large, and the text behind it.
+pub fn read_number(most: u128, text: &[u8]) -> Option<(u128, &[u8])>
+    requires { most < 2 ^ 127 }
+    ensures within { IfSome result (λ read. read.0 ≤ most) }
+    ensures read { MatchOption result (number_at most text.now ≡ None) (λ read. number_at most text.now ≡ Some (read.0, read.1.now)) }
+{
+    if !begins_number(text) {
+        return None;
+    }
+    let mut value: u128 = 0;
+    let mut rest = text;
+    while let Some((b, after)) = rest.split_first() {
+        if !is_digit(*b) {
+            break;
+        }
+        value = value.saturating_mul(10).saturating_add((*b - b'0') as u128);
+        rest = after;
+    }
+    if value > most {
+        return None;
+    }
+    Some((value, rest))
+}
+
+fn letter(name: VarName) -> u8
+    ensures { result ≡ letter name }
+{
+    match name {
+        VarName::U(_) => b'u',
+        VarName::X(_) => b'x',
+    }
+}
+
+pub fn number(name: VarName) -> u8
+    ensures { result ≡ number name }
+{
+    match name {
+        VarName::U(n) => n,
+        VarName::X(n) => n,
+    }
+}
+
+/// The text behind the variable of this name, if it stands first.
+fn read_name(name: VarName, text: &[u8]) -> Option<&[u8]>
+    ensures { MatchOption result (name_at name text.now ≡ None) (λ rest. name_at name text.now ≡ Some rest.now) }
+{
+    let digits = behind(letter(name), text)?;
+    let (n, rest) = read_number(255, digits)?;
+    if n == number(name) as u128 {
+        Some(rest)
+    } else {
+        None
+    }
+}
+
+/// The exponent that stands first, 1 where none is written, and the text behind it.
+fn read_exponent(text: &[u8]) -> Option<(u8, &[u8])>
+    ensures { MatchOption result (exponent_at text.now ≡ None) (λ read. exponent_at text.now ≡ Some (read.0, read.1.now)) }
+{
+    let [b'^', digits @ ..] = text else {
+        return Some((1, text));
+    };
+    let (e, rest) = read_number(MOST_DEGREE as u128, digits)?;
+    if e > 1 { Some((e as u8, rest)) } else { None }
+}
+
+/// The exponent of the variable of this name, if that stands first, and the text behind it.
+pub fn read_factor(name: VarName, joined: bool, text: &[u8]) -> Option<(u8, &[u8])>
+    ensures { MatchOption result (factor_at name joined text.now ≡ None) (λ read. factor_at name joined text.now ≡ Some (read.0, read.1.now)) }
+{
+    let body = if joined { behind(b'*', text)? } else { text };
+    read_exponent(read_name(name, body)?)
+}
