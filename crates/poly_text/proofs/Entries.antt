@@ -1,18 +1,17 @@
 -- Terms with their signs, as they are read and as they are written.
-use Rattle.std.proofs.Common.{◌≡◌, ◌≢◌, ℕ, ◌+◌, ◌-◌, ◌^◌, ◌<◌, ◌≤◌, zero, suc, List, [], ◌∷◌, ◌++◌, length, Bool, true, false, ◌&&◌, ◌||◌, not, ◌==◌, nat_lt, nat_le, cond, refl, sym, ◌∙◌, ap, subst, arith, rules, Option, Some, None, append_assoc}
+use Rattle.std.proofs.Common.{◌≡◌, ℕ, ◌-◌, ◌<◌, ◌≤◌, zero, suc, List, [], ◌∷◌, ◌++◌, length, Bool, true, false, ◌&&◌, not, ◌==◌, nat_lt, nat_le, cond, refl, sym, ◌∙◌, ap, subst, arith, Option, Some, None, append_assoc}
 use Rattle.std.specs.List.{list_any}
-use Rattle.std.specs.Prelude.{ℤ, pos, negsuc, neg_ℤ, unsigned_abs, decimal}
-use Rattle.std.proofs.lemmas.Fmt.{decimal_is_IsNumeral_wide}
+use Rattle.std.specs.Prelude.{ℤ, pos, negsuc, unsigned_abs, decimal}
 use Rattle.std.proofs.lemmas.Bool.Decides.{nat_tests}
-use Rattle.poly_model.specs.Polynomial.{Entry, Polynomial}
+use Rattle.poly_model.specs.Polynomial.{Entry}
 use Rattle.poly_model.specs.Content.{is_negative, signed_by}
 use Rattle.poly_model.specs.declared.vars.VarName.{VarName}
 use Rattle.poly_model.specs.declared.vars.VarName.TheVariants.{U, X}
 use Rattle.poly_model.specs.declared.limits.TheConstants.{MOST_VARIABLES, MOST_SIZE}
 use Rattle.poly_text.specs.Text.{is_left_out, factors_text, term_text, sign_text, entry_text}
-use Rattle.poly_text.specs.Reading.{is_digit, begins_number, number_from, number_at, Size, size_or_one, size_at, factors_at, is_spelled, entry_of_parts, term_at, sign_at, term_behind, entry_at}
+use Rattle.poly_text.specs.Reading.{is_digit, number_from, number_at, Size, size_or_one, size_at, factors_at, is_spelled, entry_of_parts, term_at, sign_at, term_behind, entry_at}
 use Rattle.poly_text.proofs.Numbers.{begins_digit, number_at-complete, number_at-sound, given, and_parts, digits_written}
-use Rattle.poly_text.proofs.Factors.{ends, follows, goes_on, Named, FitExponents, factors-follow, factors-complete, factors-sound}
+use Rattle.poly_text.proofs.Factors.{ends, goes_on, Named, FitExponents, factors-follow, factors-complete, factors-sound}
 
 -- the spare exponents
 abbrev pub spare : List VarName → ℕ

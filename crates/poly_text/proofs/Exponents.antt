@@ -1,6 +1,6 @@
 -- The exponents that are read so far.
-use Rattle.std.proofs.Common.{◌≡◌, ℕ, ◌+◌, ◌-◌, ◌<◌, ◌≤◌, suc, List, [], ◌∷◌, ◌++◌, length, take, drop, get_or, set, replicate, Bool, true, false, refl, sym, ◌∙◌, ap, subst, arith, Option, Some, None, append_assoc, add-one}
-use Rattle.std.proofs.lemmas.List.{take_more, take-append-drop, drop-set, drop_all, drop-set-lt, length-set}
+use Rattle.std.proofs.Common.{◌≡◌, ℕ, ◌+◌, ◌-◌, ◌<◌, ◌≤◌, suc, List, [], ◌∷◌, ◌++◌, length, take, drop, get_or, set, replicate, Bool, true, sym, ◌∙◌, ap, arith, Some, None, append_assoc}
+use Rattle.std.proofs.lemmas.List.{take_more, take-append-drop, drop_all, drop-set-lt, length-set}
 use Rattle.std.proofs.Math.Seq.{drop-cons, take-suc-set}
 use Rattle.poly_model.specs.declared.vars.VarName.{VarName}
 use Rattle.poly_model.specs.declared.limits.TheConstants.{MOST_VARIABLES}

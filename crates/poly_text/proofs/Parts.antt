@@ -1,15 +1,14 @@
 -- Texts cut into the pieces that are printed.
-use Rattle.std.proofs.Common.{◌≡◌, ◌≢◌, ℕ, ◌+◌, ◌<◌, ◌≤◌, zero, suc, List, [], ◌∷◌, ◌++◌, length, map, drop, get_or, Bool, true, false, ◌==◌, cond, refl, sym, ◌∙◌, ap, subst, arith, append_assoc}
-use Rattle.std.specs.Prelude.{ℤ, pos, negsuc, unsigned_abs, codes, decimal}
+use Rattle.std.proofs.Common.{◌≡◌, ◌≢◌, ℕ, ◌+◌, ◌<◌, ◌≤◌, zero, suc, List, [], ◌∷◌, ◌++◌, length, drop, get_or, Bool, true, false, ◌==◌, cond, refl, sym, ◌∙◌, ap, arith, append_assoc}
+use Rattle.std.specs.Prelude.{codes, decimal}
 use Rattle.std.proofs.lemmas.Bool.Decides.{nat_tests}
-use Rattle.std.proofs.lemmas.List.{drop_all, length-map}
+use Rattle.std.proofs.lemmas.List.{drop_all}
 use Rattle.std.proofs.Math.Seq.{drop-cons}
-use Rattle.poly_model.specs.Polynomial.{Entry, Polynomial}
-use Rattle.poly_model.specs.Content.{is_negative}
+use Rattle.poly_model.specs.Polynomial.{Polynomial}
 use Rattle.poly_model.specs.Standard.{entry_of, polynomial_of}
 use Rattle.poly_model.specs.declared.term.Term.{Term}
 use Rattle.poly_model.specs.declared.vars.VarName.{VarName}
-use Rattle.poly_text.specs.Text.{letter, number, joint_text, exponent_text, factor_text, factors_text, is_left_out, term_text, sign_text, entry_text, terms_text, poly_text}
+use Rattle.poly_text.specs.Text.{letter, number, joint_text, exponent_text, factor_text, factors_text, is_left_out, term_text, entry_text, terms_text, poly_text}
 
 pub exponent_above : (e : ℕ) → e ≢ 1 → exponent_text e ≡ codes "^" ++ decimal e
 exponent_above e n = ap (λ t. cond t [] (codes "^" ++ decimal e)) (let q : (e == 1) ≡ false = grind (arith, nat_tests) in q)

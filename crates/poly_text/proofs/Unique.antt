@@ -1,8 +1,7 @@
 -- Each polynomial has one text, and each text is that of at most one polynomial.
-use Rattle.std.proofs.Common.{◌≡◌, ◌≢◌, ℕ, ◌+◌, ◌-◌, ◌<◌, ◌≤◌, zero, suc, List, [], ◌∷◌, ◌++◌, length, drop, replicate, Bool, true, false, ◌&&◌, ◌==◌, nat_lt, nat_le, nat_eq, cond, refl, sym, ◌∙◌, ap, subst, arith, rules, Option, Some, None, append_assoc, append-nil, length-append, IsTrue}
+use Rattle.std.proofs.Common.{◌≡◌, ◌≢◌, ℕ, ◌+◌, ◌<◌, ◌≤◌, zero, suc, List, [], ◌∷◌, ◌++◌, length, drop, replicate, Bool, true, false, ◌&&◌, ◌==◌, nat_lt, nat_le, nat_eq, cond, refl, sym, ◌∙◌, ap, arith, Option, Some, None, length-append}
 use Rattle.std.specs.List.{list_all, list_any}
-use Rattle.std.specs.Prelude.{ℤ, pos, negsuc, unsigned_abs, codes, decimal}
-use Rattle.std.proofs.lemmas.List.{length-replicate}
+use Rattle.std.specs.Prelude.{ℤ, unsigned_abs, codes, decimal}
 use Rattle.std.proofs.lemmas.Bool.{eqb-true}
 use Rattle.std.proofs.lemmas.Bool.Decides.{nat_tests}
 use Rattle.poly_model.specs.Polynomial.{Entry, Polynomial, is_over}
@@ -12,7 +11,7 @@ use Rattle.poly_model.specs.Names.{u_numbers, x_numbers, count_from, are_numbere
 use Rattle.poly_model.specs.declared.vars.VarName.{VarName}
 use Rattle.poly_model.specs.declared.vars.VarName.TheVariants.{U, X}
 use Rattle.poly_model.specs.declared.limits.TheConstants.{MOST_VARIABLES, MOST_DEGREE, MOST_TERMS, MOST_SIZE}
-use Rattle.poly_text.specs.Text.{number, joint_text, factor_text, factors_text, is_left_out, term_text, sign_text, entry_text, terms_text, poly_text}
+use Rattle.poly_text.specs.Text.{factors_text, is_left_out, term_text, sign_text, terms_text, poly_text}
 use Rattle.poly_text.specs.Reading.{entry_at}
 use Rattle.poly_text.proofs.Numbers.{and_parts, digits_written}
 use Rattle.poly_text.proofs.Factors.{ends, Named, Misses, FitExponents}

@@ -1,6 +1,5 @@
 -- How a polynomial's text is read, piece by piece: what each piece says, and the text behind it.
-use Rattle.std.specs.Prelude.{ℕ, zero, suc, ◌+◌, ◌-◌, ◌*◌, List, [], ◌∷◌, Bool, true, false, if◌then◌else◌, ◌&&◌, ◌==◌, not, nat_le, nat_lt, Option, Some, None, replicate, length, ℤ, pos, neg_ℤ}
-use Rattle.std.specs.List.{list_any}
+use Rattle.std.specs.Prelude.{ℕ, ◌+◌, ◌-◌, ◌*◌, List, [], ◌∷◌, Bool, true, false, if◌then◌else◌, ◌&&◌, ◌==◌, not, nat_le, nat_lt, Option, Some, None, replicate, length, pos}
 use Rattle.poly_model.specs.Polynomial.{Entry}
 use Rattle.poly_model.specs.Content.{signed_by}
 use Rattle.poly_model.specs.declared.vars.VarName.{VarName}

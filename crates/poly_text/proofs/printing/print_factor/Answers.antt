@@ -1,4 +1,4 @@
-use Rattle.std.proofs.Common.{◌≡◌, ◌++◌, sym, ◌∙◌, ap, append_assoc}
+use Rattle.std.proofs.Common.{◌≡◌, ◌++◌, ◌∙◌, ap, append_assoc}
 use Rattle.std.specs.Prelude.{decimal}
 use Rattle.desk_io.proofs.Growth.{Grew-then}
 use Rattle.desk_io.proofs.Writing.{first_failed, next_failed, last_writes}

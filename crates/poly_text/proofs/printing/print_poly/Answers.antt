@@ -1,7 +1,5 @@
-use Rattle.std.proofs.Common.{◌≡◌, ◌∙◌, sym, ap, arith, subst, true, List, ℕ}
+use Rattle.std.proofs.Common.{sym, arith, subst, List, ℕ}
 use Rattle.desk_io.specs.Bytes.{Grew, Writes}
-use Rattle.poly_model.specs.Standard.{polynomial_of}
-use Rattle.poly_text.specs.Text.{terms_text, poly_text}
 use Rattle.poly_text.proofs.Going.{begun, wrote, stopped, ended}
 use Rattle.poly_text.proofs.Parts.{entry_next, terms_done, poly_of_terms}
 use Rattle.poly_text.proofs.printing.print_poly.Goals as goal

@@ -1,8 +1,6 @@
-use Rattle.std.proofs.Common.{◌≡◌, ◌++◌, ℕ, List, sym, subst}
-use Rattle.std.specs.Prelude.{decimal, unsigned_abs}
+use Rattle.std.proofs.Common.{ℕ, List, sym, subst}
 use Rattle.desk_io.specs.Bytes.{Writes}
 use Rattle.desk_io.proofs.Writing.{first_failed, last_writes}
-use Rattle.poly_text.specs.Text.{factors_text, term_text}
 use Rattle.poly_text.proofs.Parts.{term_written, term_unwritten}
 use Rattle.poly_text.proofs.printing.print_term.Goals as goal
 

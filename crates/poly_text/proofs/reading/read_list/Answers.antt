@@ -1,6 +1,6 @@
-use Rattle.std.proofs.Common.{◌∙◌, sym, ap, length}
+use Rattle.std.proofs.Common.{◌∙◌, sym, ap}
 use Rattle.poly_model.specs.Standard.{polynomial_of}
-use Rattle.poly_text.proofs.Unique.{no_empty_text, zero_only, terms_only, terms_spell}
+use Rattle.poly_text.proofs.Unique.{no_empty_text, zero_only}
 use Rattle.poly_text.proofs.reading.read_list.Goals as goal
 
 pub returns-then-is_empty-clause-refuses : goal.returns-then-is_empty-clause-refuses

@@ -1,7 +1,6 @@
-use Rattle.std.proofs.Common.{◌≡◌, ◌==◌, ◌∷◌, [], ◌∙◌, sym, ap, arith, subst, length, List, ℕ, vec_len, map}
+use Rattle.std.proofs.Common.{◌≡◌, ◌==◌, ◌∷◌, [], ◌∙◌, sym, ap, arith, subst, length, vec_len}
 use Rattle.std.proofs.lemmas.List.{length-map, map-append}
 use Rattle.poly_model.specs.Standard.{entry_of, polynomial_of}
-use Rattle.poly_model.specs.declared.term.Term.{Term}
 use Rattle.poly_text.proofs.Progress.{TermsRead, read_whole, read_only, past_the_limit, no_entry, next_entry}
 use Rattle.poly_text.proofs.reading.read_terms.Goals as goal
 

@@ -1,6 +1,5 @@
-use Rattle.std.proofs.Common.{arith, sym, ◌-◌, ◌<◌, length}
-use Rattle.poly_model.specs.declared.limits.TheConstants.{MOST_VARIABLES}
-use Rattle.poly_text.proofs.Exponents.{absent, present, all_read}
+use Rattle.std.proofs.Common.{arith, sym}
+use Rattle.poly_text.proofs.Exponents.{absent, present}
 use Rattle.poly_text.proofs.terms.read_factors.Goals as goal
 
 pub loop-i-preserved-in_default : goal.loop-i-preserved-in_default
