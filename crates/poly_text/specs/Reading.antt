@@ -6,6 +6,7 @@ use Rattle.poly_model.specs.declared.vars.VarName.{VarName}
 use Rattle.poly_model.specs.declared.limits.TheConstants.{MOST_VARIABLES, MOST_DEGREE, MOST_SIZE}
 use Rattle.poly_text.specs.Text.{letter, number, is_left_out}
 
+-- A decimal digit.
 abbrev pub is_digit : ℕ → Bool
 is_digit b = nat_le 48 b && nat_le b 57
 
@@ -29,10 +30,12 @@ abbrev pub behind : ℕ → List ℕ → Option (List ℕ)
 behind byte [] = None
 behind byte (b ∷ text) = if b == byte then Some text else None
 
+-- What stands behind this very number.
 abbrev pub numbered : ℕ → Option (ℕ × List ℕ) → Option (List ℕ)
 numbered n None = None
 numbered n (Some read) = if read.0 == n then Some read.1 else None
 
+-- What stands behind the number of a variable, where its letter was read.
 abbrev pub number_of : VarName → Option (List ℕ) → Option (List ℕ)
 number_of name None = None
 number_of name (Some text) = numbered (number name) (number_at 255 text)
@@ -41,6 +44,7 @@ number_of name (Some text) = numbered (number name) (number_at 255 text)
 abbrev pub name_at : VarName → List ℕ → Option (List ℕ)
 name_at name text = number_of name (behind (letter name) text)
 
+-- An exponent that may be written.
 abbrev pub above_one : Option (ℕ × List ℕ) → Option (ℕ × List ℕ)
 above_one None = None
 above_one (Some read) = if nat_lt 1 read.0 then Some read else None
@@ -50,13 +54,16 @@ abbrev pub exponent_at : List ℕ → Option (ℕ × List ℕ)
 exponent_at [] = Some (1, [])
 exponent_at (b ∷ text) = if b == 94 then above_one (number_at MOST_DEGREE text) else Some (1, b ∷ text)
 
+-- What stands behind the `*` that joins a factor to what stands before.
 abbrev pub joint_at : Bool → List ℕ → Option (List ℕ)
 joint_at joined text = if joined then behind 42 text else Some text
 
+-- The variable behind what was read before, if that was read.
 abbrev pub name_behind : VarName → Option (List ℕ) → Option (List ℕ)
 name_behind name None = None
 name_behind name (Some text) = name_at name text
 
+-- The exponent behind what was read before, if that was read.
 abbrev pub exponent_behind : Option (List ℕ) → Option (ℕ × List ℕ)
 exponent_behind None = None
 exponent_behind (Some text) = exponent_at text
@@ -80,10 +87,12 @@ pub record Size : Type 0 where
   pub size : ℕ
   pub rest : List ℕ
 
+-- A size that was read, or 1 where none is written.
 abbrev pub size_or_one : List ℕ → Option (ℕ × List ℕ) → Size
 size_or_one text None = record { written = false; size = 1; rest = text }
 size_or_one text (Some read) = record { written = true; size = read.0; rest = read.1 }
 
+-- The size of a coefficient.
 abbrev pub size_at : List ℕ → Size
 size_at text = size_or_one text (number_at MOST_SIZE text)
 
@@ -91,6 +100,7 @@ size_at text = size_or_one text (number_at MOST_SIZE text)
 abbrev pub is_spelled : Size → List ℕ → Bool
 is_spelled size es = if size.written then not (is_left_out size.size es) else is_left_out size.size es
 
+-- The entry of a size and of factors, if the size is spelled as it should be.
 abbrev pub entry_of_parts : Bool → Size → List ℕ × List ℕ → Option (Entry × List ℕ)
 entry_of_parts negative size factors =
     if nat_lt 0 size.size && is_spelled size factors.0 then Some ((factors.0, signed_by negative (pos size.size)), factors.1) else None
@@ -109,6 +119,7 @@ sign_at false (a ∷ []) = None
 sign_at false (a ∷ b ∷ []) = None
 sign_at false (a ∷ b ∷ c ∷ text) = if a == 32 && c == 32 then (if b == 45 then Some (true, text) else (if b == 43 then Some (false, text) else None)) else None
 
+-- The term behind its sign, if that was read.
 abbrev pub term_behind : List VarName → Option (Bool × List ℕ) → Option (Entry × List ℕ)
 term_behind names None = None
 term_behind names (Some read) = term_at names read.0 read.1

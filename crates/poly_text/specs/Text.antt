@@ -1,4 +1,4 @@
--- The text of a polynomial.
+-- The text of a polynomial over named variables.
 use Rattle.std.specs.Prelude.{ℕ, zero, suc, List, [], ◌∷◌, ◌++◌, Bool, true, false, if◌then◌else◌, ◌&&◌, ◌==◌, nat_lt, unsigned_abs, codes, decimal}
 use Rattle.std.specs.List.{list_any}
 use Rattle.poly_model.specs.Polynomial.{Entry, Polynomial}
@@ -6,7 +6,7 @@ use Rattle.poly_model.specs.Content.{is_negative}
 use Rattle.poly_model.specs.declared.vars.VarName.{VarName}
 use Rattle.poly_model.specs.declared.vars.VarName.TheVariants.{U, X}
 
--- `u` or `x`.
+-- The byte of a variable's kind, `u` or `x`.
 abbrev pub letter : VarName → ℕ
 letter (U n) = 117
 letter (X n) = 120
@@ -60,7 +60,7 @@ abbrev pub terms_text : Bool → List VarName → Polynomial → List ℕ
 terms_text first names [] = []
 terms_text first names (entry ∷ p) = entry_text first names entry ++ terms_text false names p
 
--- A polynomial over the variables of these names.
+-- The text of a polynomial over the variables of these names: its terms, or `0` where it has none.
 abbrev pub poly_text : List VarName → Polynomial → List ℕ
 poly_text names [] = codes "0"
 poly_text names (entry ∷ p) = terms_text true names (entry ∷ p)

@@ -1,0 +1,8 @@
+use Rattle.std.proofs.Common.{ap, arith}
+use Rattle.poly_model.specs.Standard.{polynomial_of}
+use Rattle.algebraize.specs.Small.{weight}
+use Rattle.algebraize.proofs.Small as small
+use Rattle.algebraize.proofs.terms.difference.Goals as goal
+
+pub sum-requires-clause-q : goal.sum-requires-clause-q
+sum-requires-clause-q c = omega (arith, ap weight c.in_ok-negative.ensures, small.weight-negative (polynomial_of c.args.q.now), c.requires.q)

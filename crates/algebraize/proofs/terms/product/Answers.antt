@@ -1,0 +1,56 @@
+use Rattle.std.proofs.Common.{◌*◌, ◌^◌, sym, ◌∙◌, ap, subst, arith}
+use Rattle.std.specs.Prelude.{unsigned_abs}
+use Rattle.poly_model.specs.Standard.{polynomial_of}
+use Rattle.poly_model.specs.declared.limits.TheConstants.{MOST_DEGREE, MOST_VARIABLES}
+use Rattle.algebraize.specs.Small.{weight, AllWithin}
+use Rattle.algebraize.proofs.Changes as changes
+use Rattle.algebraize.proofs.Small as small
+use Rattle.algebraize.proofs.Changes.{multiples}
+use Rattle.algebraize.proofs.terms.product.Goals as goal
+
+pub loop-last-init : goal.loop-last-init
+loop-last-init c =
+    let p = polynomial_of c.args.p.now in
+    let q = polynomial_of c.args.q.now in
+    record {
+      value = ap (λ l. multiples p q (polynomial_of l)) c.new-product.ensures.items ∙ changes.multiples-none p q;
+      bound = omega (arith, ap (λ l. weight (polynomial_of l)) c.new-product.ensures.items, small.product-bound (weight p) (2 ^ 10) (weight q) (2 ^ 10) c.requires.p.weight c.requires.q.weight);
+      p_bound = c.requires.p.weight;
+      within = c.requires.p.within;
+    }
+
+pub add_multiple-requires-clause-bound : goal.add_multiple-requires-clause-bound
+add_multiple-requires-clause-bound c =
+    let last = c.in-Some.last.now in
+    let front = c.in-Some.front.now in
+    let q = polynomial_of c.args.q.now in
+    let whole = ap (λ l. weight (polynomial_of l)) c.in-Some.ensures.cases.0 ∙ small.weight-last front last in
+    let product = ap (λ w. w * weight q) whole ∙ small.distribute_back (weight (polynomial_of front)) (unsigned_abs last.coef) (weight q) in
+    omega (arith, product, c.loop-last.invariant.bound)
+
+pub add_multiple-requires-clause-coef : goal.add_multiple-requires-clause-coef
+add_multiple-requires-clause-coef c =
+    let whole = ap (λ l. weight (polynomial_of l)) c.in-Some.ensures.cases.0 ∙ small.weight-last c.in-Some.front.now c.in-Some.last.now in
+    omega (arith, whole, c.loop-last.invariant.p_bound)
+
+pub add_multiple-requires-clause-low : goal.add_multiple-requires-clause-low
+add_multiple-requires-clause-low c =
+    small.AreWithin-low MOST_VARIABLES MOST_DEGREE c.in-Some.last.now.exps (omega arith)
+    (small.AllWithin-last MOST_VARIABLES MOST_DEGREE c.in-Some.front.now c.in-Some.last.now (subst (λ l. AllWithin MOST_VARIABLES MOST_DEGREE (polynomial_of l)) c.in-Some.ensures.cases.0 c.loop-last.invariant.within)).1
+
+pub loop-last-preserved : goal.loop-last-preserved
+loop-last-preserved c =
+    let last = c.in-Some.last.now in
+    let front = c.in-Some.front.now in
+    let q = polynomial_of c.args.q.now in
+    let r = polynomial_of c.loop-last.product.items in
+    let whole = ap (λ l. weight (polynomial_of l)) c.in-Some.ensures.cases.0 ∙ small.weight-last front last in
+    let product = ap (λ w. w * weight q) whole ∙ small.distribute_back (weight (polynomial_of front)) (unsigned_abs last.coef) (weight q) in
+    let added = c.in_ok-add_multiple.ensures in
+    record {
+      value = ap (multiples (polynomial_of front) q) added ∙ sym (changes.multiples-last front last q r)
+          ∙ ap (λ l. multiples (polynomial_of l) q r) (sym c.in-Some.ensures.cases.0) ∙ c.loop-last.invariant.value;
+      bound = omega (arith, product, ap weight added, small.weight-add_multiple last.exps last.coef q r, c.loop-last.invariant.bound);
+      p_bound = omega (arith, whole, c.loop-last.invariant.p_bound);
+      within = (small.AllWithin-last MOST_VARIABLES MOST_DEGREE front last (subst (λ l. AllWithin MOST_VARIABLES MOST_DEGREE (polynomial_of l)) c.in-Some.ensures.cases.0 c.loop-last.invariant.within)).0;
+    }

@@ -1,0 +1,50 @@
+//! Constructions in a command language: pictures, equations, proofs, and a checker of proofs.
+#![tactic(auto)]
+
+mod asked;
+mod drawing;
+mod drawn;
+mod invocation;
+mod note;
+mod picture;
+mod piece;
+mod pipeline;
+mod run;
+mod spots;
+mod stage;
+mod status;
+mod svg;
+#[cfg(test)]
+mod tests;
+
+use desk_io::{RealDesk, RealSink};
+use run::gclc_run;
+use status::Status;
+use std::process::ExitCode;
+use std::rt::Env;
+use std::{env, io};
+
+// The words after the program's name.
+fn words_given(rt: &(impl Env + AllocGlobal)) -> io::Result<Vec<String>> {
+    let words = env::args(rt)?.skip(1).collect(rt.alloc())?;
+    Ok(words)
+}
+
+fn main(rt: HostRuntime) -> ExitCode {
+    let alloc = rt.alloc();
+    let mut out = RealSink::new(rt.stdout());
+    let mut notes = RealSink::new(rt.stderr());
+    let words = match words_given(&rt) {
+        Ok(words) => words,
+        Err(error) => {
+            if error.kind() == io::ErrorKind::OutOfMemory {
+                return ExitCode::from(Status::OutOfMemory as u8);
+            }
+            // Words that are no text are no form of the command line, and neither are none.
+            Vec::new(alloc)
+        }
+    };
+    let mut desk = RealDesk::new(rt);
+    let status = gclc_run(alloc, &words, &mut desk, &mut out, &mut notes);
+    ExitCode::from(status as u8)
+}

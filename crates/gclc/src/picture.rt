@@ -1,0 +1,25 @@
+// Pictures: shapes over an area.
+use fixed_point::{Row, Spot};
+
+/// A colour by its parts of red, green and blue.
+#[derive(Clone, Copy, Debug, PartialEq, Eq)]
+pub struct Ink {
+    pub r: u8,
+    pub g: u8,
+    pub b: u8,
+}
+
+/// What is drawn.
+#[derive(Clone, Copy, Debug, PartialEq, Eq)]
+pub enum Shape {
+    /// The straight line between two ends.
+    Segment(Spot, Spot),
+}
+
+/// Shapes over an area from (0,0) to (w,h), in ticks of 1/10,000 mm; later ones lie above earlier ones.
+#[derive(Drop)]
+pub struct Picture {
+    pub w: i64,
+    pub h: i64,
+    pub shapes: Row<(Ink, Shape)>,
+}
