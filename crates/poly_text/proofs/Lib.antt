@@ -4,5 +4,4 @@ pub mod Exponents
 pub mod Entries
 pub mod Unique
 pub mod Progress
-pub mod Going
 pub mod Parts

@@ -1,5 +1,5 @@
 use Rattle.std.proofs.Common.{arith}
-use Rattle.poly_text.proofs.Going.{wrote, stopped, ended}
+use Rattle.desk_io.proofs.Going.{wrote, stopped, ended}
 use Rattle.algebraize.proofs.Lines as lines
 use Rattle.algebraize.proofs.system.write_names.Goals as goal
 

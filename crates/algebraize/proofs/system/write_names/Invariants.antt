@@ -1,5 +1,5 @@
 use Rattle.std.proofs.Common.{◌≤◌, drop}
-use Rattle.poly_text.proofs.Going.{Going}
+use Rattle.desk_io.proofs.Going.{Going}
 use Rattle.algebraize.specs.System.{names_text}
 use Rattle.algebraize.proofs.system.write_names.Given as goal
 

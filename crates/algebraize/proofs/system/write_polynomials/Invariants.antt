@@ -1,7 +1,7 @@
 use Rattle.std.proofs.Common.{◌≤◌, length, IsTrue}
 use Rattle.std.specs.List.{list_all}
 use Rattle.poly_model.specs.Polynomial.{is_over}
-use Rattle.poly_text.proofs.Going.{Going}
+use Rattle.desk_io.proofs.Going.{Going}
 use Rattle.algebraize.specs.System.{polynomial_lines}
 use Rattle.algebraize.proofs.system.write_polynomials.Given as goal
 

@@ -1,6 +1,6 @@
 use Rattle.std.proofs.Common.{◌≡◌, ◌≤◌, ◌+◌, length, map, IsTrue}
 use Rattle.std.specs.List.{list_all}
-use Rattle.poly_text.proofs.Going.{Going}
+use Rattle.desk_io.proofs.Going.{Going}
 use Rattle.algebraize.specs.Formed.{equations, is_own}
 use Rattle.algebraize.specs.System.{problems_text}
 use Rattle.algebraize.proofs.system.write_system.Given as goal

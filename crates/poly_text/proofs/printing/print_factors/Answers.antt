@@ -1,6 +1,6 @@
 use Rattle.std.proofs.Common.{sym, arith}
 use Rattle.poly_model.specs.declared.vars.VarName.TheVariants.{U}
-use Rattle.poly_text.proofs.Going.{same, wrote, stopped}
+use Rattle.desk_io.proofs.Going.{same, wrote, stopped}
 use Rattle.poly_text.proofs.Parts.{factor_skipped, factor_next}
 use Rattle.poly_text.proofs.printing.print_factors.Goals as goal
 

@@ -1,6 +1,6 @@
 use Rattle.std.proofs.Common.{◌≤◌, drop}
 use Rattle.poly_text.specs.Text.{factors_text}
-use Rattle.poly_text.proofs.Going.{Going}
+use Rattle.desk_io.proofs.Going.{Going}
 use Rattle.poly_text.proofs.printing.print_factors.Given as goal
 
 abbrev pub invariant-loop-i : goal.invariant-loop-i

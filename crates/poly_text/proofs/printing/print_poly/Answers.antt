@@ -1,6 +1,6 @@
 use Rattle.std.proofs.Common.{sym, arith, subst, List, ℕ}
 use Rattle.desk_io.specs.Bytes.{Grew, Writes}
-use Rattle.poly_text.proofs.Going.{begun, wrote, stopped, ended}
+use Rattle.desk_io.proofs.Going.{begun, wrote, stopped, ended}
 use Rattle.poly_text.proofs.Parts.{entry_next, terms_done, poly_of_terms}
 use Rattle.poly_text.proofs.printing.print_poly.Goals as goal
 

@@ -1,7 +1,7 @@
 use Rattle.std.proofs.Common.{◌≤◌, ◌==◌, drop, true}
 use Rattle.poly_model.specs.Standard.{polynomial_of}
 use Rattle.poly_text.specs.Text.{terms_text}
-use Rattle.poly_text.proofs.Going.{Going}
+use Rattle.desk_io.proofs.Going.{Going}
 use Rattle.poly_text.proofs.printing.print_poly.Given as goal
 
 abbrev pub invariant-loop-i : goal.invariant-loop-i
