@@ -1,25 +1,11 @@
 //! Constructions in a command language: pictures, equations, proofs, and a checker of proofs.
 #![tactic(auto)]
 
-mod asked;
-mod drawing;
-mod drawn;
-mod invocation;
-mod note;
-mod picture;
-mod piece;
-mod pipeline;
-mod run;
-mod spots;
-mod stage;
-mod status;
-mod svg;
 #[cfg(test)]
 mod tests;
 
+use command_line::{Status, exit_code, gclc_run};
 use desk_io::{RealDesk, RealSink};
-use run::gclc_run;
-use status::Status;
 use std::process::ExitCode;
 use std::rt::Env;
 use std::{env, io};
@@ -36,15 +22,12 @@ fn main(rt: HostRuntime) -> ExitCode {
     let mut notes = RealSink::new(rt.stderr());
     let words = match words_given(&rt) {
         Ok(words) => words,
-        Err(error) => {
-            if error.kind() == io::ErrorKind::OutOfMemory {
-                return ExitCode::from(Status::OutOfMemory as u8);
-            }
-            // Words that are no text are no form of the command line, and neither are none.
-            Vec::new(alloc)
-        }
+        Err(error) if error.kind() == io::ErrorKind::OutOfMemory => return exit_code(
+            Status::OutOfMemory,
+        ),
+        // Words that are no text are no form of the command line, and neither are none.
+        Err(_) => Vec::new(alloc),
     };
     let mut desk = RealDesk::new(rt);
-    let status = gclc_run(alloc, &words, &mut desk, &mut out, &mut notes);
-    ExitCode::from(status as u8)
+    exit_code(gclc_run(alloc, &words, &mut desk, &mut out, &mut notes))
 }

@@ -1,6 +1,5 @@
 // Whole runs over a desk and sinks in memory: the bytes that each leaves, and that each status but want of memory comes.
-use crate::run::{gclc_run, show_run, svg_run, system_run};
-use crate::status::Status;
+use command_line::{Status, gclc_run, show_run, svg_run, system_run};
 use desk_io::{MemDesk, MemSink};
 use itoa::Buffer;
 use std::alloc::{AllocError, Global};

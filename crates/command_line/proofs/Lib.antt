@@ -1,0 +1,9 @@
+pub mod Causes
+pub mod Dues
+pub mod Table
+pub mod Decided
+pub mod Placing
+pub mod Depicting
+pub mod Parts
+pub mod Rows
+pub mod Outcomes

@@ -1,0 +1,16 @@
+pub mod Note
+pub mod Answer
+pub mod Command
+pub mod Pipeline
+pub mod Forms
+pub mod Run
+pub mod Contract
+pub mod Statuses
+pub mod ExitCodes
+pub mod Place
+pub mod Drawing
+pub mod View
+pub mod Picture
+pub mod Pieces
+pub mod Svg
+pub mod Drawn

@@ -1,0 +1,48 @@
+-- What a run leaves, against the answer that is due.
+use Rattle.std.specs.Prelude.{◌≡◌, ℕ, ◌⊎◌, List, [], Option, Some}
+use Rattle.std.specs.Io.KnownBytes.{append_known}
+use Rattle.desk_io.specs.Files.{Files}
+use Rattle.desk_io.specs.Bytes.{GrewByFront}
+use Rattle.command_line.specs.Answer.{Answer, read_fault}
+use Rattle.command_line.specs.declared.status.Status.{Status}
+use Rattle.command_line.specs.declared.status.Status.TheVariants.{Done, Unproved, WriteFault, OutOfMemory}
+
+-- Only an answer that is done, or done and not proved, has bytes on out.
+abbrev pub IsSilent : Answer → Type 0
+IsSilent answer = (answer.status ≡ Done → ⊥) → (answer.status ≡ Unproved → ⊥) → answer.out ≡ []
+
+-- The status is the answer's, and its bytes stand on both sinks.
+pub record Whole (answer : Answer) (out_old out_new notes_old notes_new : Option (List ℕ)) (status : Status) : Type 0 where
+  pub status_is : status ≡ answer.status
+  pub out : out_new ≡ append_known out_old answer.out
+  pub notes : notes_new ≡ append_known notes_old answer.notes
+
+-- A put failed: fronts of the answer's bytes stand on both sinks, and on notes only behind all of out's.
+pub record CutOff (answer : Answer) (out_old out_new notes_old notes_new : Option (List ℕ)) (status : Status) : Type 0 where
+  pub status_is : status ≡ WriteFault
+  pub out : GrewByFront out_old out_new answer.out
+  pub notes : GrewByFront notes_old notes_new answer.notes
+  pub order : (out_new ≡ append_known out_old answer.out) ⊎ (notes_new ≡ notes_old)
+
+-- Memory ran out, before anything was put.
+pub record Nothing (out_old out_new notes_old notes_new : Option (List ℕ)) (status : Status) : Type 0 where
+  pub status_is : status ≡ OutOfMemory
+  pub out : out_new ≡ out_old
+  pub notes : notes_new ≡ notes_old
+
+-- The ends of a run whose answer is due.
+abbrev pub Ends : Answer → Option (List ℕ) → Option (List ℕ) → Option (List ℕ) → Option (List ℕ) → Status → Type 0
+Ends answer out_old out_new notes_old notes_new status =
+    Whole answer out_old out_new notes_old notes_new status ⊎ CutOff answer out_old out_new notes_old notes_new status ⊎ Nothing out_old out_new notes_old notes_new status
+
+-- The answer that is due. Where the desk tells its files it is theirs, or, where its faults rose, it may be the read
+-- fault. Of every desk it is an answer that has bytes on out only where it is done.
+pub record Due (held : Option Files) (rose : Type 0) (of_files : Files → Answer) (answer : Answer) : Type 0 where
+  pub silent : IsSilent answer
+  pub told : (files : Files) → held ≡ Some files → (answer ≡ of_files files) ⊎ (rose × (answer ≡ read_fault))
+
+-- What a call answers.
+pub record Answers (held : Option Files) (rose : Type 0) (of_files : Files → Answer) (out_old out_new notes_old notes_new : Option (List ℕ)) (status : Status) : Type 0 where
+  pub answer : Answer
+  pub due : Due held rose of_files answer
+  pub ends : Ends answer out_old out_new notes_old notes_new status

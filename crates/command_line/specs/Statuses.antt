@@ -1,0 +1,12 @@
+-- The statuses of the stages of a run.
+use Rattle.std.specs.Prelude.{◌≡◌, ◌⊎◌}
+use Rattle.command_line.specs.declared.status.Status.{Status}
+use Rattle.command_line.specs.declared.status.Status.TheVariants.{Done, Refused, ReadFault, WriteFault, TooLarge, OutOfMemory}
+
+-- A file was not read.
+abbrev pub IsReadingFault : Status → Type 0
+IsReadingFault status = (status ≡ ReadFault) ⊎ (status ≡ TooLarge) ⊎ (status ≡ WriteFault) ⊎ (status ≡ OutOfMemory)
+
+-- A text was put, or the file was refused.
+abbrev pub IsWritingStatus : Status → Type 0
+IsWritingStatus status = (status ≡ Done) ⊎ (status ≡ Refused) ⊎ (status ≡ WriteFault) ⊎ (status ≡ OutOfMemory)

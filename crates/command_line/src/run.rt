@@ -1,0 +1,138 @@
+// The top call, and the call of each form.
+ghost use Rattle.std.specs.Prelude.{◌≡◌, ◌≤◌, ◌⊎◌, List, ℕ, [], ◌∷◌, None, Some, map};
+ghost use Rattle.std.specs.String.{string_bytes};
+ghost use Rattle.desk_io.specs.Causes.{Rose};
+ghost use Rattle.desk_io.specs.Files.{Lacks};
+ghost use Rattle.command_line.specs.Answer.{answer_of, form_of, text_form};
+ghost use Rattle.command_line.specs.Command.{Command};
+ghost use Rattle.command_line.specs.Contract.{IsRun, IsTextRun, IsQuiet, lent, views};
+ghost use Rattle.command_line.specs.Pipeline.{svg_of, system_of, show_of};
+ghost use Rattle.command_line.specs.Run.{Answers};
+
+use crate::invocation::{Invocation, TextForm, read_command};
+use crate::pipeline::{ShowCommand, SvgCommand, SystemCommand};
+use crate::stage::{TextCommand, fetch, put_file, say};
+use crate::status::Status;
+use desk_io::{Desk, Sink};
+use std::alloc::Global;
+
+// The most bytes of a file.
+const MOST_BYTES: u64 = 1_048_576;
+
+const USAGE: &[u8] =
+    b"usage: gclc svg FILE, latex FILE, system FILE, show FILE, prove FILE [--workers N], check LOG [FILE]\n";
+
+// Reads the file and runs the command over it. The call below says what follows.
+fn file_answered<C: TextCommand, K: Desk, S: Sink, N: Sink>(
+    alloc: Global,
+    name: &str,
+    desk: &mut K,
+    out: &mut S,
+    notes: &mut N,
+) -> Status
+    ensures answered { Answers (K.held desk.old) (Rose (K.faults desk.old) (K.faults desk.new))
+        (answer_of (Some (text_form C.made name.now)))
+        (S.written out.old) (S.written out.new) (N.written notes.old) (N.written notes.new) result }
+    ensures read_fault { result ≡ Status.ReadFault
+        → Rose (K.faults desk.old) (K.faults desk.new) ⊎ Lacks (K.held desk.old) name.now }
+    ensures write_fault { result ≡ Status.WriteFault
+        → Rose (S.faults out.old) (S.faults out.new) ⊎ Rose (N.faults notes.old) (N.faults notes.new) }
+    ensures untouched { IsQuiet result → out.new ≡ out.old }
+    ensures unsaid { result ≡ Status.OutOfMemory → notes.new ≡ notes.old }
+    ensures same { K.held desk.new ≡ K.held desk.old }
+    ensures later { (K.faults desk.old ≤ K.faults desk.new) × (S.faults out.old ≤ S.faults out.new)
+        × (N.faults notes.old ≤ N.faults notes.new) }
+    ensures text { IsTextRun (lent desk.old out.old notes.old) (lent desk.new out.new notes.new) result }
+{
+    match fetch(alloc, name, MOST_BYTES, desk, notes) {
+        Ok(bytes) => put_file::<C, S, N>(alloc, &bytes, out, notes),
+        Err(status) => status,
+    }
+}
+
+/// Runs a command that makes a text of one file.
+pub fn file_run<C: TextCommand, K: Desk, S: Sink, N: Sink>(
+    alloc: Global,
+    name: &str,
+    desk: &mut K,
+    out: &mut S,
+    notes: &mut N,
+) -> Status
+    ensures run { IsRun (views K.held K.faults S.written S.faults N.written N.faults)
+        (lent desk.old out.old notes.old) (lent desk.new out.new notes.new)
+        (Some (text_form C.made name.now)) result }
+    ensures text { IsTextRun (lent desk.old out.old notes.old) (lent desk.new out.new notes.new) result }
+{
+    file_answered::<C, K, S, N>(alloc, name, desk, out, notes)
+}
+
+/// `svg FILE`: writes the file's picture as SVG.
+pub fn svg_run<K: Desk, S: Sink, N: Sink>(
+    alloc: Global,
+    name: &str,
+    desk: &mut K,
+    out: &mut S,
+    notes: &mut N,
+) -> Status
+    ensures run { IsRun (views K.held K.faults S.written S.faults N.written N.faults)
+        (lent desk.old out.old notes.old) (lent desk.new out.new notes.new)
+        (Some (text_form svg_of name.now)) result }
+    ensures text { IsTextRun (lent desk.old out.old notes.old) (lent desk.new out.new notes.new) result }
+{
+    file_run::<SvgCommand, K, S, N>(alloc, name, desk, out, notes)
+}
+
+/// `system FILE`: writes the equations of each prove of the file.
+pub fn system_run<K: Desk, S: Sink, N: Sink>(
+    alloc: Global,
+    name: &str,
+    desk: &mut K,
+    out: &mut S,
+    notes: &mut N,
+) -> Status
+    ensures run { IsRun (views K.held K.faults S.written S.faults N.written N.faults)
+        (lent desk.old out.old notes.old) (lent desk.new out.new notes.new)
+        (Some (text_form system_of name.now)) result }
+    ensures text { IsTextRun (lent desk.old out.old notes.old) (lent desk.new out.new notes.new) result }
+{
+    file_run::<SystemCommand, K, S, N>(alloc, name, desk, out, notes)
+}
+
+/// `show FILE`: writes the file in its canonical spelling.
+pub fn show_run<K: Desk, S: Sink, N: Sink>(
+    alloc: Global,
+    name: &str,
+    desk: &mut K,
+    out: &mut S,
+    notes: &mut N,
+) -> Status
+    ensures run { IsRun (views K.held K.faults S.written S.faults N.written N.faults)
+        (lent desk.old out.old notes.old) (lent desk.new out.new notes.new)
+        (Some (text_form show_of name.now)) result }
+    ensures text { IsTextRun (lent desk.old out.old notes.old) (lent desk.new out.new notes.new) result }
+{
+    file_run::<ShowCommand, K, S, N>(alloc, name, desk, out, notes)
+}
+
+/// What the program does with the words after its name.
+pub fn gclc_run<K: Desk, S: Sink, N: Sink>(
+    alloc: Global,
+    words: &[String],
+    desk: &mut K,
+    out: &mut S,
+    notes: &mut N,
+) -> Status
+    ensures run { IsRun (views K.held K.faults S.written S.faults N.written N.faults)
+        (lent desk.old out.old notes.old) (lent desk.new out.new notes.new)
+        (form_of (map string_bytes words.now)) result }
+    ensures text { (command : Command) (name : List ℕ)
+        → form_of (map string_bytes words.now) ≡ Some (text_form command name)
+        → IsTextRun (lent desk.old out.old notes.old) (lent desk.new out.new notes.new) result }
+{
+    match read_command(words) {
+        Invocation::Text(TextForm::Svg, name) => svg_run(alloc, name, desk, out, notes),
+        Invocation::Text(TextForm::System, name) => system_run(alloc, name, desk, out, notes),
+        Invocation::Text(TextForm::Show, name) => show_run(alloc, name, desk, out, notes),
+        Invocation::Wrong => say(USAGE, Status::Usage, notes),
+    }
+}

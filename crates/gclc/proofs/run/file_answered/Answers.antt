@@ -1,8 +1,0 @@
-use Rattle.gclc.specs.Answer.{answer_from}
-use Rattle.gclc.proofs.Table.{silent_from}
-use Rattle.gclc.proofs.run.file_answered.Goals as goal
-
-pub returns-in-Err-clause-answered : goal.returns-in-Err-clause-answered
-returns-in-Err-clause-answered g c =
-    c.in-Err.ensures.over (λ files bytes. answer_from bytes (g.C.TextCommand.made bytes)) (g.S.Sink.written c.args.out.now)
-    (λ files bytes. silent_from bytes (g.C.TextCommand.made bytes))
