@@ -35,7 +35,8 @@ pub trait Desk {
         ensures absent { Lacks (held self.old) name.now → OnOk result ⊥ }
         ensures same { held self.new ≡ held self.old }
         ensures later { faults self.old ≤ faults self.new }
-        ensures cause { OnErr result (Rose (faults self.old) (faults self.new) ⊎ Lacks (held self.old) name.now) };
+        ensures cause { OnErr result
+            (Rose (faults self.old) (faults self.new) ⊎ Lacks (held self.old) name.now) };
 }
 
 /// Where bytes are written to, each put behind what was written before.

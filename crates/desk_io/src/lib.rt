@@ -9,7 +9,7 @@ mod whole;
 
 pub use desk::{Desk, Failed, Sink};
 pub use memory::{MemDesk, MemSink};
-pub use pen::Pen;
+pub use pen::{PEN_ROOM, Pen};
 pub use real::{RealDesk, RealSink};
 pub use whole::{DeskFault, read_whole};
 

@@ -14,7 +14,7 @@ use std::marker::Model;
 /// A desk over a list of files, for tests and for whoever holds the files already.
 ///
 /// It tells what it holds. Its reads fail at the numbers that it was given, the first read being number 1.
-#[derive(Drop)]
+#[derive(Debug, Drop)]
 pub struct MemDesk {
     files: Vec<(String, Vec<u8>)>,
     failing: Vec<u64>,
@@ -41,7 +41,8 @@ impl Model for MemDesk {
 fn find_file<'a>(files: &'a [(String, Vec<u8>)], name: &str) -> Option<&'a Vec<u8>>
     ensures { MatchOption result
         (file_of (map (λ file. (string_bytes file.0, file.1.items)) files.now) name.now ≡ None)
-        (λ bytes. file_of (map (λ file. (string_bytes file.0, file.1.items)) files.now) name.now ≡ Some bytes.now.items) }
+        (λ bytes. file_of (map (λ file. (string_bytes file.0, file.1.items)) files.now) name.now
+        ≡ Some bytes.now.items) }
 {
     for file in files {
         if file.0.as_str() == name {
@@ -111,9 +112,11 @@ impl Desk for MemDesk {
         ensures absent { Lacks (Some self.old.files) name.now → OnOk result ⊥ }
         ensures same { self.new.files ≡ self.old.files }
         ensures later { self.old.faults ≤ self.new.faults }
-        ensures cause { OnErr result (Rose self.old.faults self.new.faults ⊎ Lacks (Some self.old.files) name.now) }
+        ensures cause { OnErr result
+            (Rose self.old.faults self.new.faults ⊎ Lacks (Some self.old.files) name.now) }
         ensures state { self.new ≡ after_read self.old }
-        ensures exact { ReadGives result piece.old piece.new (read_bytes self.old name.now from (length piece.old)) }
+        ensures exact { ReadGives result piece.old piece.new
+            (read_bytes self.old name.now from (length piece.old)) }
     {
         self.reads = self.reads.saturating_add(1);
         if stands_in(&self.failing, self.reads) {
@@ -131,7 +134,7 @@ impl Desk for MemDesk {
 ///
 /// It tells what was written. Its puts fail at the numbers that it was given, the first put being number 1, and where
 /// there is no room for all the bytes.
-#[derive(Drop)]
+#[derive(Debug, Drop)]
 pub struct MemSink {
     bytes: Vec<u8>,
     room: usize,
@@ -154,7 +157,8 @@ impl Model for MemSink {
       faults = sink.faults;
     } };
 
-    ghost invariant = { λ sink. (vec_len sink.bytes ≤ sink.room) × (sink.room ≤ vec_capacity sink.bytes) };
+    ghost invariant = { λ sink.
+        (vec_len sink.bytes ≤ sink.room) × (sink.room ≤ vec_capacity sink.bytes) };
 }
 
 impl MemSink {
@@ -163,7 +167,13 @@ impl MemSink {
 
     /// A sink into which nothing was written. It takes the memory for its room at once, so that no put takes any.
     pub fn new(alloc: Global, room: usize, fails: Vec<u64>) -> Result<MemSink, AllocError>
-        ensures { IfOk result (λ sink. sink ≡ record { bytes = []; room = room; failing = fails.items; puts = 0; faults = 0 }) }
+        ensures { IfOk result (λ sink. sink ≡ record {
+          bytes = [];
+          room = room;
+          failing = fails.items;
+          puts = 0;
+          faults = 0;
+        }) }
     {
         let bytes = Vec::with_capacity(alloc, room)?;
         Ok(MemSink {

@@ -1,5 +1,5 @@
 // Gathering small writes.
-ghost use Rattle.std.specs.Prelude.{◌≡◌, ◌≤◌, ◌+◌, ◌++◌, List, [], ℕ, length, vec_len, IfOk, OnOk, OnErr};
+ghost use Rattle.std.specs.Prelude.{◌≡◌, ◌≤◌, ◌+◌, ◌++◌, [], length, IfOk, is_ok, true};
 ghost use Rattle.desk_io.specs.Causes.{HasCause};
 ghost use Rattle.desk_io.specs.Bytes.{Puts, Writes};
 
@@ -7,26 +7,29 @@ use crate::{Failed, Sink};
 use std::alloc::{AllocError, Global};
 use std::marker::Model;
 
-// How many bytes are gathered before they are put.
-const ROOM: usize = 8192;
+/// How many bytes a pen gathers before it puts them.
+pub const PEN_ROOM: usize = 8192;
 
-/// Gathers bytes into puts of 8,192, to the sink that each call is lent.
+/// Gathers bytes into puts of `PEN_ROOM` bytes, to the sink that each call is lent.
 ///
 /// Contracts see a pen as the bytes that it has gathered and not yet put. It holds no sink and takes memory only in
 /// `open`. A pen is no `Drop`, so it cannot be let go unnoticed: `close` spends it by putting what is left, and `give_up`
 /// spends it after a push that failed.
+#[derive(Debug)]
 pub struct Pen {
     gathered: Vec<u8>,
 }
 
 impl Model for Pen {
     ghost use Rattle.std.specs.Prelude.{◌≤◌, List, ℕ, vec_len, vec_capacity};
+    ghost use Rattle.desk_io.specs.declared.pen.TheConstants.{PEN_ROOM};
 
     ghost Value = { List ℕ };
 
     ghost view = { λ pen. pen.gathered.items };
 
-    ghost invariant = { λ pen. (vec_len pen.gathered ≤ 8192) × (8192 ≤ vec_capacity pen.gathered) };
+    ghost invariant = { λ pen.
+        (vec_len pen.gathered ≤ PEN_ROOM) × (PEN_ROOM ≤ vec_capacity pen.gathered) };
 }
 
 impl Pen {
@@ -34,7 +37,7 @@ impl Pen {
     pub fn open(alloc: Global) -> Result<Pen, AllocError>
         ensures { IfOk result (λ pen. pen ≡ []) }
     {
-        let gathered = Vec::with_capacity(alloc, ROOM)?;
+        let gathered = Vec::with_capacity(alloc, PEN_ROOM)?;
         Ok(Pen { gathered })
     }
 
@@ -42,13 +45,15 @@ impl Pen {
     ///
     /// Once it has answered `Failed`, the text has a gap, and only `give_up` is of use.
     pub fn push<S: Sink>(&mut self, sink: &mut S, bytes: &[u8]) -> Result<(), Failed>
-        ensures bytes { Writes (S.written sink.old) (S.written sink.new) self.old self.new result bytes.now }
+        ensures bytes { Writes (S.written sink.old) (S.written sink.new)
+            self.old self.new result bytes.now }
         ensures cause { HasCause (S.faults sink.old) (S.faults sink.new) result }
-        ensures gathers { length self.old + length bytes.now ≤ 8192 → (self.new ≡ self.old ++ bytes.now) × (sink.new ≡ sink.old) }
+        ensures gathers { length self.old + length bytes.now ≤ PEN_ROOM
+            → (self.new ≡ self.old ++ bytes.now) × (sink.new ≡ sink.old) }
     {
         let mut rest = bytes;
-        while rest.len() > ROOM - self.gathered.len() {
-            let (front, back) = rest.split_at(ROOM - self.gathered.len());
+        while rest.len() > PEN_ROOM - self.gathered.len() {
+            let (front, back) = rest.split_at(PEN_ROOM - self.gathered.len());
             self.gathered.extend_from_slice(front).unwrap();
             sink.put(&self.gathered)?;
             self.gathered.clear();
@@ -62,6 +67,7 @@ impl Pen {
     pub fn close<S: Sink>(self, sink: &mut S) -> Result<(), Failed>
         ensures bytes { Puts (S.written sink.old) (S.written sink.new) result self }
         ensures cause { HasCause (S.faults sink.old) (S.faults sink.new) result }
+        ensures nothing { self ≡ [] → (is_ok result ≡ true) × (sink.new ≡ sink.old) }
     {
         let Pen { gathered } = self;
         if gathered.is_empty() {

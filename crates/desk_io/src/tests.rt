@@ -31,14 +31,10 @@ fn reads_of_a_desk_in_memory(rt: HostRuntime) -> Result<(), Fail> {
 fn whole_files(rt: HostRuntime) -> Result<(), Fail> {
     let alloc = rt.alloc();
     let long = [7u8; 5000];
-    let table: [(&[u8], &str, u64, &[u64], Option<DeskFault>); 10] = [
+    let table: [(&[u8], &str, u64, &[u64], Option<DeskFault>); 6] = [
         (b"", "a", 0, &[], None),
-        (b"hello", "a", 5, &[], None),
-        (b"hello", "a", 4, &[], Some(DeskFault::TooLarge)),
         (b"hello", "b", 5, &[], Some(DeskFault::ReadFault)),
-        (b"hello", "a", 5, &[1], Some(DeskFault::ReadFault)),
-        (b"hello", "a", 5, &[2], Some(DeskFault::ReadFault)),
-        (b"hello", "a", 5, &[3], None),
+        (b"hello", "a", 4, &[], Some(DeskFault::TooLarge)),
         (&long, "a", 5000, &[], None),
         (&long, "a", 4999, &[], Some(DeskFault::TooLarge)),
         (&long, "a", 5000, &[3], Some(DeskFault::ReadFault)),
@@ -50,36 +46,20 @@ fn whole_files(rt: HostRuntime) -> Result<(), Fail> {
                 assert!(rt; fault.is_none());
                 assert_eq!(rt; bytes.as_slice(), file);
             }
-            Err(error) => assert!(rt; fault == Some(error)),
+            Err(error) => assert_eq!(rt; fault, Some(error)),
         }
     }
     Ok(())
 }
 
 #[test]
-fn a_sink_of_every_room_has_a_front(rt: HostRuntime) -> Result<(), Fail> {
+fn a_pen_puts_where_it_is_full(rt: HostRuntime) -> Result<(), Fail> {
     let alloc = rt.alloc();
-    let text = b"some text";
-    for room in 0..text.len() + 1 {
-        let mut sink = MemSink::new(alloc, room, Vec::new(alloc))?;
-        let mut pen = Pen::open(alloc)?;
-        assert!(rt; pen.push(&mut sink, b"some ").is_ok());
-        assert!(rt; pen.push(&mut sink, b"text").is_ok());
-        assert!(rt; sink.bytes().is_empty());
-        assert_eq!(rt; pen.close(&mut sink).is_ok(), room == text.len());
-        assert_eq!(rt; sink.bytes(), &text[..room]);
-    }
-    Ok(())
-}
-
-#[test]
-fn a_pen_puts_at_8192(rt: HostRuntime) -> Result<(), Fail> {
-    let alloc = rt.alloc();
-    let text = [7u8; 8192];
+    let text = [7u8; PEN_ROOM];
     for (fails, last, close, len) in [
-        ([9u64], true, true, 8193usize),
+        ([9u64], true, true, PEN_ROOM + 1),
         ([1], false, true, 0),
-        ([2], true, false, 8192),
+        ([2], true, false, PEN_ROOM),
     ] {
         let mut sink = MemSink::new(alloc, 10_000, fails.to_vec(alloc)?)?;
         let mut pen = Pen::open(alloc)?;

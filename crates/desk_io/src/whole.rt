@@ -34,7 +34,8 @@ pub fn read_whole<K: Desk>(
     name: &str,
     most: u64,
 ) -> Result<Vec<u8>, DeskFault>
-    ensures whole { (file : List ℕ) → Holds (K.held desk.old) name.now file → IfOk result (λ bytes. bytes.items ≡ file) }
+    ensures whole { (file : List ℕ) → Holds (K.held desk.old) name.now file
+        → IfOk result (λ bytes. bytes.items ≡ file) }
     ensures fits { IfOk result (λ bytes. vec_len bytes ≤ most) }
     ensures absent { Lacks (K.held desk.old) name.now → OnOk result ⊥ }
     ensures read_fault { IsErrOf result DeskFault.ReadFault
@@ -42,7 +43,8 @@ pub fn read_whole<K: Desk>(
     ensures too_large { (file : List ℕ) → Holds (K.held desk.old) name.now file
         → IsErrOf result DeskFault.TooLarge → most < length file }
     ensures oversize { (file : List ℕ) → Holds (K.held desk.old) name.now file → most < length file
-        → IsErrOf result DeskFault.TooLarge ⊎ IsErrOf result DeskFault.ReadFault ⊎ IsErrOf result DeskFault.OutOfMemory }
+        → IsErrOf result DeskFault.TooLarge ⊎ IsErrOf result DeskFault.ReadFault
+        ⊎ IsErrOf result DeskFault.OutOfMemory }
     ensures not_absent { Lacks (K.held desk.old) name.now → IsErrOf result DeskFault.TooLarge → ⊥ }
     ensures same { K.held desk.new ≡ K.held desk.old }
     ensures later { K.faults desk.old ≤ K.faults desk.new }

@@ -1,5 +1,5 @@
 -- What is written is read as the same value.
-use Rattle.std.proofs.Common.{◌≡◌, ℕ, zero, suc, ◌+◌, ◌-◌, ◌*◌, ◌/◌, ◌%◌, ◌^◌, ◌<◌, ◌≤◌, List, [], ◌∷◌, length, refl, ap, sym, ◌∙◌, arith, Bool, true, false, cond, ◌==◌, ◌&&◌, ◌++◌, rules, take, drop, zero-add, nat_lt, ℤ, pos, negsuc, unsigned_abs, Some, None, Ok}
+use Rattle.std.proofs.Common.{◌≡◌, ℕ, zero, suc, ◌+◌, ◌-◌, ◌*◌, ◌/◌, ◌%◌, ◌^◌, ◌<◌, ◌≤◌, List, [], ◌∷◌, length, refl, ap, sym, ◌∙◌, arith, Bool, true, false, cond, ◌==◌, ◌++◌, rules, take, drop, zero-add, nat_lt, ℤ, pos, negsuc, unsigned_abs, Some, None, Ok}
 use Rattle.std.specs.List.{position_or_len}
 use Rattle.std.proofs.lemmas.List.{append-nil}
 use Rattle.std.proofs.Common.{length-append}
@@ -10,7 +10,9 @@ use Rattle.std.specs.List.{list_all}
 use Rattle.std.proofs.lemmas.Str.Parse.{IsNumeralModel, numerals_by_fold}
 use Rattle.std.proofs.lemmas.Fmt.{digits_decimal, digits_value-decimal, decimal_nonempty}
 use Rattle.std.proofs.lemmas.Grind.{common_steps}
+use Rattle.std.proofs.lemmas.Bool.{and_parts}
 use Rattle.std.proofs.lemmas.Bool.Decides.{nat_tests}
+use Rattle.fixed_point.specs.declared.limits.TheConstants.{MOST_DECIMALS, MOST_MILLIONTHS}
 use Rattle.fixed_point.specs.Decimal.{value_from, is_digit}
 use Rattle.fixed_point.specs.Text.{decimals_text}
 
@@ -71,10 +73,6 @@ own = numerals_by_fold _ (search rules) value_from (search rules)
 pub whole-written : (n : ℕ) → n < 2 ^ 64 → (list_all is_digit (decimal n) ≡ true) × (value_from 0 (decimal n) ≡ n)
 whole-written n h = (digits_decimal own n h, digits_value-decimal own n h)
 
-and-parts : (a b : Bool) → (a && b) ≡ true → (a ≡ true) × (b ≡ true)
-and-parts true b h = (refl, h)
-and-parts false b h = cc
-
 digit-point : (d : ℕ) → is_digit d ≡ true → (d == 46) ≡ false
 digit-point d h = grind (arith, nat_tests)
 
@@ -86,11 +84,8 @@ digit-minus d h = grind (arith, nat_tests)
 
 no-point : (ds rest : List ℕ) → list_all is_digit ds ≡ true → position_or_len (λ b. b == 46) (ds ++ rest) ≡ length ds + position_or_len (λ b. b == 46) rest
 no-point [] rest h = sym (zero-add _)
-no-point (d ∷ ds) rest h = let p = and-parts (is_digit d) (list_all is_digit ds) h in
+no-point (d ∷ ds) rest h = let p = and_parts (is_digit d) (list_all is_digit ds) h in
     simp (digit-point d p.0) (ap (λ n. 1 + n) (no-point ds rest p.1) ∙ omega arith)
-
-lt-self : (n : ℕ) → nat_lt n n ≡ false
-lt-self n = grind (arith, nat_tests)
 
 point-none : (ds : List ℕ) → list_all is_digit ds ≡ true → point_in (ds ++ []) ≡ None
 point-none ds h = rw (no-point ds [] h, append-nil ds) (none (length ds)) where
@@ -115,12 +110,12 @@ split-again : (negative : Bool) (ds fs : List ℕ) → list_all is_digit ds ≡ 
 split-again negative ds [] h = rw (point-none ds h, append-nil ds) refl
 split-again negative ds (f ∷ fs) h = rw (point-some ds (f ∷ fs) h, whole-is ds (f ∷ fs), decimals-are ds (f ∷ fs)) refl
 
-parts-again : (negative : Bool) (ds fs : List ℕ) (n : ℕ) → list_all is_digit ds ≡ true → list_all is_digit fs ≡ true → 0 < length ds → length fs ≤ 6 → millionths ds fs ≡ n → n ≤ 10 ^ 12 →
+parts-again : (negative : Bool) (ds fs : List ℕ) (n : ℕ) → list_all is_digit ds ≡ true → list_all is_digit fs ≡ true → 0 < length ds → length fs ≤ MOST_DECIMALS → millionths ds fs ≡ n → n ≤ MOST_MILLIONTHS →
     fix_of_parts negative ds fs ≡ Ok (signed negative n)
 parts-again negative ds fs n d f some short e small =
     let a : (length ds == 0) ≡ false = grind (arith, nat_tests) in
-    let b : nat_lt 6 (length fs) ≡ false = grind (arith, nat_tests) in
-    let c : nat_lt (10 ^ 12) n ≡ false = grind (arith, nat_tests) in
+    let b : nat_lt MOST_DECIMALS (length fs) ≡ false = grind (arith, nat_tests) in
+    let c : nat_lt (MOST_MILLIONTHS) n ≡ false = grind (arith, nat_tests) in
     simp (d, f, a, b, e, c)
 
 decimals-step-digits : (k m : ℕ) → m < 10 ^ suc k → (list_all is_digit (decimals_text k (m % 10 ^ k)) ≡ true) × (length (decimals_text k (m % 10 ^ k)) ≤ k) → (b : Bool) → (m == 0) ≡ b →
@@ -143,24 +138,24 @@ decimals-digits (suc k) m h = decimals-step-digits k m h (decimals-digits k (m %
 
 no-sign : (ds rest : List ℕ) → 0 < length ds → list_all is_digit ds ≡ true → (is_negative (ds ++ rest) ≡ false) × (unsigned_of (ds ++ rest) ≡ ds ++ rest)
 no-sign [] rest h d = absurd (omega (arith, h))
-no-sign (d ∷ ds) rest h e = let p = and-parts (is_digit d) (list_all is_digit ds) e in
+no-sign (d ∷ ds) rest h e = let p = and_parts (is_digit d) (list_all is_digit ds) e in
     (digit-minus d p.0, simp (digit-plus d p.0, digit-minus d p.0))
 
-size-again : (negative : Bool) (n : ℕ) → n ≤ 10 ^ 12 → let t = size_text 6 n in fix_of_parts negative (whole_at (point_in t) t) (decimals_at (point_in t) t) ≡ Ok (signed negative n)
+size-again : (negative : Bool) (n : ℕ) → n ≤ MOST_MILLIONTHS → let t = size_text MOST_DECIMALS n in fix_of_parts negative (whole_at (point_in t) t) (decimals_at (point_in t) t) ≡ Ok (signed negative n)
 unfolding size_text
 size-again negative n h =
-    let w = whole-written (n / 10 ^ 6) (omega arith) in
-    let f = decimals-digits 6 (n % 10 ^ 6) (omega arith) in
-    let v = decimals-value 6 (n % 10 ^ 6) (n / 10 ^ 6) (omega arith) in
-    let e : millionths (decimal (n / 10 ^ 6)) (decimals_text 6 (n % 10 ^ 6)) ≡ n = rw w.1 (v ∙ divided n (10 ^ 6) (omega arith)) in
-    split-again negative (decimal (n / 10 ^ 6)) (decimals_text 6 (n % 10 ^ 6)) w.0
-    ∙ parts-again negative (decimal (n / 10 ^ 6)) (decimals_text 6 (n % 10 ^ 6)) n w.0 f.0 (decimal_nonempty (n / 10 ^ 6) (omega arith)) f.1 e h
+    let w = whole-written (n / 10 ^ MOST_DECIMALS) (omega arith) in
+    let f = decimals-digits MOST_DECIMALS (n % 10 ^ MOST_DECIMALS) (omega arith) in
+    let v = decimals-value MOST_DECIMALS (n % 10 ^ MOST_DECIMALS) (n / 10 ^ MOST_DECIMALS) (omega arith) in
+    let e : millionths (decimal (n / 10 ^ MOST_DECIMALS)) (decimals_text MOST_DECIMALS (n % 10 ^ MOST_DECIMALS)) ≡ n = rw w.1 (v ∙ divided n (10 ^ MOST_DECIMALS) (omega arith)) in
+    split-again negative (decimal (n / 10 ^ MOST_DECIMALS)) (decimals_text MOST_DECIMALS (n % 10 ^ MOST_DECIMALS)) w.0
+    ∙ parts-again negative (decimal (n / 10 ^ MOST_DECIMALS)) (decimals_text MOST_DECIMALS (n % 10 ^ MOST_DECIMALS)) n w.0 f.0 (decimal_nonempty (n / 10 ^ MOST_DECIMALS) (omega arith)) f.1 e h
 
 -- What is written is read as the same value.
-pub again : (z : ℤ) → unsigned_abs z ≤ 10 ^ 12 → fix_of (number_text 6 z) ≡ Ok z
+pub again : (z : ℤ) → unsigned_abs z ≤ MOST_MILLIONTHS → fix_of (number_text MOST_DECIMALS z) ≡ Ok z
 unfolding size_text number_text
 again (pos n) h =
-    let w = whole-written (n / 10 ^ 6) (omega arith) in
-    let s = no-sign (decimal (n / 10 ^ 6)) (point_text (decimals_text 6 (n % 10 ^ 6))) (decimal_nonempty (n / 10 ^ 6) (omega arith)) w.0 in
+    let w = whole-written (n / 10 ^ MOST_DECIMALS) (omega arith) in
+    let s = no-sign (decimal (n / 10 ^ MOST_DECIMALS)) (point_text (decimals_text MOST_DECIMALS (n % 10 ^ MOST_DECIMALS))) (decimal_nonempty (n / 10 ^ MOST_DECIMALS) (omega arith)) w.0 in
     rw (s.0, s.1) (size-again false n h)
 again (negsuc n) h = size-again true (suc n) h

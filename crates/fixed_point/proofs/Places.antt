@@ -1,20 +1,9 @@
 -- Decimals that are written one at a time.
-use Rattle.std.proofs.Common.{◌≡◌, ℕ, zero, suc, ◌+◌, ◌-◌, ◌*◌, ◌/◌, ◌%◌, ◌^◌, ◌<◌, ◌≤◌, List, [], ◌∷◌, ◌++◌, Option, Result, refl, ap, sym, subst, ◌∙◌, arith, false, append_assoc, ◌==◌, ℤ, pos, negsuc, unsigned_abs, ◌≤ℤ◌, ◌<ℤ◌, decimal}
-use Rattle.std.proofs.lemmas.List.{append-nil}
+use Rattle.std.proofs.Common.{◌≡◌, ℕ, zero, suc, ◌+◌, ◌-◌, ◌*◌, ◌/◌, ◌%◌, ◌^◌, ◌<◌, ◌≤◌, List, [], ◌∷◌, ◌++◌, refl, ap, sym, arith, false, ◌==◌, ℤ, pos, negsuc, unsigned_abs, ◌≤ℤ◌, ◌<ℤ◌, decimal}
 use Rattle.std.proofs.lemmas.Bool.Decides.{nat_tests}
 use Rattle.std.proofs.lemmas.Int.{ints}
-use Rattle.std.specs.Result.{IsErr}
-use Rattle.desk_io.specs.Bytes.{GrewByFront, Grew, Writes}
-use Rattle.desk_io.proofs.Growth.{Grew-then}
-use Rattle.desk_io.proofs.Writing.{next_failed}
 use Rattle.fixed_point.specs.Text.{decimals_text, point_text, size_text, number_text}
 use Rattle.fixed_point.proofs.Again.{power, positive}
-
--- A front of the text is written or gathered, and the rest of it is not.
-pub record Begun (old new : Option (List ℕ)) (old_gathered gathered rest text : List ℕ) : Type 0 where
-  pub front : List ℕ
-  pub grew : Grew old new old_gathered gathered front
-  pub parts : text ≡ front ++ rest
 
 pub some-places : (places m : ℕ) → 0 < m → m < 10 ^ places → 0 < places
 some-places zero m h l = absurd (omega (arith, h, l))
@@ -51,27 +40,6 @@ no-decimals (suc places) m h = let z : m ≡ 0 = omega (arith, h) in rw z refl
 pub decimals-pointed : (places m : ℕ) → 0 < m → m < 10 ^ places → point_text (decimals_text places m) ≡ 46 ∷ decimals_text places m
 decimals-pointed places m h l =
     rw (first-decimal places m (10 ^ (places - 1)) h l refl) refl
-
--- The next piece failed.
-pub piece-failed : {T E : Type 0} (r : Result T E) (w0 w1 w2 : Option (List ℕ)) (g0 g1 g2 rest text piece others : List ℕ)
-    → IsErr r → Begun w0 w1 g0 g1 rest text → rest ≡ piece ++ others → GrewByFront w1 w2 (g1 ++ piece) → Writes w0 w2 g0 g2 r text
-piece-failed r w0 w1 w2 g0 g1 g2 rest text piece others failed begun e f =
-    next_failed r w0 w1 w2 g0 g1 g2 begun.front piece others text failed begun.grew f
-    (begun.parts ∙ ap (λ l. begun.front ++ l) e ∙ sym (append_assoc begun.front piece others))
-
--- The next piece is written.
-pub piece-written : (w0 w1 w2 : Option (List ℕ)) (g0 g1 g2 rest text piece others : List ℕ)
-    → Begun w0 w1 g0 g1 rest text → rest ≡ piece ++ others → Grew w1 w2 g1 g2 piece → Begun w0 w2 g0 g2 others text
-piece-written w0 w1 w2 g0 g1 g2 rest text piece others begun e grew = record {
-  front = begun.front ++ piece;
-  grew = Grew-then w0 w1 w2 g0 g1 g2 begun.front piece begun.grew grew;
-  parts = begun.parts ∙ ap (λ l. begun.front ++ l) e ∙ sym (append_assoc begun.front piece others);
-}
-
--- Nothing is left.
-pub all-written : (w0 w1 : Option (List ℕ)) (g0 g1 rest text : List ℕ) → Begun w0 w1 g0 g1 rest text → rest ≡ [] → Grew w0 w1 g0 g1 text
-all-written w0 w1 g0 g1 rest text begun e =
-    subst (λ t. Grew w0 w1 g0 g1 t) (sym (begun.parts ∙ ap (λ l. begun.front ++ l) e ∙ append-nil begun.front)) begun.grew
 
 -- The texts of numbers with and without a sign.
 pub text-unsigned : (places n : ℕ) (z : ℤ) → pos 0 ≤ℤ z → n ≡ unsigned_abs z → number_text places z ≡ size_text places n

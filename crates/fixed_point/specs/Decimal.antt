@@ -1,7 +1,7 @@
 -- What the text of a number says: its value in millionths, or why it is no number.
-use Rattle.std.specs.Prelude.{ℕ, ◌+◌, ◌-◌, ◌*◌, ◌^◌, List, [], ◌∷◌, length, take, drop, Bool, false, if◌then◌else◌, ◌&&◌, ◌||◌, not, ◌==◌, nat_le, nat_lt, ℤ, pos, Result, Ok, Err, position, Option, Some, None}
+use Rattle.std.specs.Prelude.{ℕ, ◌+◌, ◌-◌, ◌*◌, ◌^◌, List, [], ◌∷◌, length, take, drop, Bool, false, if◌then◌else◌, ◌&&◌, ◌||◌, not, ◌==◌, nat_le, nat_lt, ℤ, pos, neg_ℤ, Result, Ok, Err, position, Option, Some, None}
 use Rattle.std.specs.List.{list_all}
-use Rattle.std.proofs.Math.IntN.{neg_ℤ}
+use Rattle.fixed_point.specs.declared.limits.TheConstants.{MOST_DECIMALS, MOST_MILLIONTHS}
 use Rattle.fixed_point.specs.declared.fault.NumberFault.{NumberFault}
 use Rattle.fixed_point.specs.declared.fault.NumberFault.TheVariants.{NotNumber, TooLong, TooFar}
 
@@ -42,9 +42,9 @@ value_from n (b ∷ bs) = value_from (10 * n + (b - 48)) bs
 abbrev pub is_number : List ℕ → List ℕ → Bool
 is_number whole decimals = list_all is_digit whole && list_all is_digit decimals && not ((length whole == 0) && (length decimals == 0))
 
--- The value of at most six decimals behind a whole part.
+-- The value of a whole part and of at most as many decimals as there are millionths.
 abbrev pub millionths : List ℕ → List ℕ → ℕ
-millionths whole decimals = value_from (value_from 0 whole) decimals * 10 ^ (6 - length decimals)
+millionths whole decimals = value_from (value_from 0 whole) decimals * 10 ^ (MOST_DECIMALS - length decimals)
 
 -- The value with its sign.
 abbrev pub signed : Bool → ℕ → ℤ
@@ -54,8 +54,8 @@ signed negative n = if negative then neg_ℤ (pos n) else pos n
 abbrev pub fix_of_parts : Bool → List ℕ → List ℕ → Result ℤ NumberFault
 fix_of_parts negative whole decimals =
     if not (is_number whole decimals) then Err NotNumber
-    else (if nat_lt 6 (length decimals) then Err TooLong
-    else (if nat_lt (10 ^ 12) (millionths whole decimals) then Err TooFar
+    else (if nat_lt MOST_DECIMALS (length decimals) then Err TooLong
+    else (if nat_lt MOST_MILLIONTHS (millionths whole decimals) then Err TooFar
     else Ok (signed negative (millionths whole decimals))))
 
 -- What a text says: a sign or none, digits, and a point or none among or beside them.

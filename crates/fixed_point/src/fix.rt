@@ -1,9 +1,10 @@
-ghost use Rattle.std.specs.Prelude.{◌≡◌, ◌≤◌, ◌^◌, List, ℕ, ℤ, Ok, unsigned_abs};
+ghost use Rattle.std.specs.Prelude.{◌≡◌, ◌≤◌, ℤ, Ok, unsigned_abs};
 ghost use Rattle.desk_io.specs.Causes.{HasCause};
 ghost use Rattle.desk_io.specs.Bytes.{Writes};
 ghost use Rattle.fixed_point.specs.Decimal.{fix_of};
 ghost use Rattle.fixed_point.specs.Text.{number_text};
 
+use crate::limits::{MOST_DECIMALS, MOST_MILLIONTHS};
 use crate::writing::write_number;
 use desk_io::{Failed, Pen, Sink};
 use std::marker::Model;
@@ -17,11 +18,14 @@ pub struct Fix {
 }
 
 impl Model for Fix {
+    ghost use Rattle.std.specs.Prelude.{◌≤◌, ℤ, unsigned_abs};
+    ghost use Rattle.fixed_point.specs.declared.limits.TheConstants.{MOST_MILLIONTHS};
+
     ghost Value = { ℤ };
 
     ghost view = { λ f. f.millionths };
 
-    ghost invariant = { λ f. unsigned_abs f.millionths ≤ 10 ^ 12 };
+    ghost invariant = { λ f. unsigned_abs f.millionths ≤ MOST_MILLIONTHS };
 
     ghost inverse = { λ n. record { millionths = n } };
 }
@@ -29,29 +33,31 @@ impl Model for Fix {
 impl Fix {
     /// The number of so many millionths.
     pub(crate) fn from_millionths(millionths: i64) -> Fix
-        requires { unsigned_abs millionths ≤ 10 ^ 12 }
+        requires { unsigned_abs millionths ≤ MOST_MILLIONTHS }
         ensures { result ≡ millionths }
     {
         Fix { millionths }
     }
 
+    /// The value in millionths.
     pub fn millionths(&self) -> i64
         ensures value { result ≡ self.now }
-        ensures size { unsigned_abs result ≤ 10 ^ 12 }
+        ensures size { unsigned_abs result ≤ MOST_MILLIONTHS }
     {
         self.millionths
     }
 
     /// Writes the shortest decimal text of the number, as `-1.5`.
     pub fn write<S: Sink>(&self, pen: &mut Pen, sink: &mut S) -> Result<(), Failed>
-        ensures bytes { Writes (S.written sink.old) (S.written sink.new) pen.old pen.new result (number_text 6 self.now) }
+        ensures bytes { Writes (S.written sink.old) (S.written sink.new) pen.old pen.new result
+            (number_text MOST_DECIMALS self.now) }
         ensures cause { HasCause (S.faults sink.old) (S.faults sink.new) result }
     {
-        write_number(6, self.millionths, pen, sink)
+        write_number(MOST_DECIMALS, self.millionths, pen, sink)
     }
 }
 
 /// What `Fix::write` writes is read by `read_fix` as the same number.
 pub fn written_is_read_back()
-    ensures { (z : ℤ) → unsigned_abs z ≤ 10 ^ 12 → fix_of (number_text 6 z) ≡ Ok z }
+    ensures { (z : ℤ) → unsigned_abs z ≤ MOST_MILLIONTHS → fix_of (number_text MOST_DECIMALS z) ≡ Ok z }
 {}

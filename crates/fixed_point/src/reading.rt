@@ -4,10 +4,11 @@ ghost use Rattle.fixed_point.specs.Decimal.{is_digit, is_number, is_negative, un
 
 use crate::fault::NumberFault;
 use crate::fix::Fix;
+use crate::limits::{MOST_DECIMALS, MOST_MILLIONTHS};
 use crate::power::power_of_ten;
 
 /// Where reading a long text stops counting: ten times the greatest size in millionths.
-const CAP: u64 = 10_000_000_000_000;
+const CAP: u64 = 10 * MOST_MILLIONTHS;
 
 fn is_digit(b: u8) -> bool
     ensures { result ≡ is_digit b }
@@ -72,11 +73,12 @@ fn split_point(text: &[u8]) -> (&[u8], &[u8])
 fn size_of_parts(whole: &[u8], decimals: &[u8]) -> u64
     requires whole { IsTrue (list_all is_digit whole.now) }
     requires decimals { IsTrue (list_all is_digit decimals.now) }
-    requires short { length decimals.now ≤ 6 }
-    ensures { result ≡ min (value_from (value_from 0 whole.now) decimals.now) CAP * 10 ^ (6 - length decimals.now) }
+    requires short { length decimals.now ≤ MOST_DECIMALS }
+    ensures { result ≡ min (value_from (value_from 0 whole.now) decimals.now) CAP
+        * 10 ^ (MOST_DECIMALS - length decimals.now) }
 {
     let value = value_up_to_cap(value_up_to_cap(0, whole), decimals);
-    value * power_of_ten(6 - decimals.len() as u32)
+    value * power_of_ten(MOST_DECIMALS - decimals.len() as u32)
 }
 
 fn is_number(whole: &[u8], decimals: &[u8]) -> bool
@@ -86,7 +88,7 @@ fn is_number(whole: &[u8], decimals: &[u8]) -> bool
 }
 
 fn signed(negative: bool, size: u64) -> Fix
-    requires { size ≤ 10 ^ 12 }
+    requires { size ≤ MOST_MILLIONTHS }
     ensures { result ≡ signed negative size }
 {
     if negative {
@@ -103,11 +105,11 @@ fn fix_of_parts(negative: bool, whole: &[u8], decimals: &[u8]) -> Result<Fix, Nu
     if !is_number(whole, decimals) {
         return Err(NumberFault::NotNumber);
     }
-    if decimals.len() > 6 {
+    if decimals.len() > MOST_DECIMALS as usize {
         return Err(NumberFault::TooLong);
     }
     let size = size_of_parts(whole, decimals);
-    if size > 1_000_000_000_000 {
+    if size > MOST_MILLIONTHS {
         return Err(NumberFault::TooFar);
     }
     Ok(signed(negative, size))

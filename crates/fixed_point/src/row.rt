@@ -3,7 +3,7 @@ ghost use Rattle.std.specs.Prelude.{◌≡◌, List};
 use std::marker::Model;
 
 /// A list of items that is not changed any more. It is what public types hold; contracts see the list.
-#[derive(Drop)]
+#[derive(Clone, Debug, Drop)]
 pub struct Row<T> {
     items: Vec<T>,
 }
@@ -33,4 +33,22 @@ impl<T> Row<T> {
         let Row { items } = self;
         items
     }
+}
+
+impl<T: PartialEq> PartialEq for Row<T> {
+    ghost use Rattle.std.specs.Cmp.Lexicographic.{pointwise, lists_per};
+
+    ghost eq = { λ x y. pointwise T.eq x y };
+
+    ghost laws = { lists_per T.laws };
+
+    fn eq(&self, other: &Self) -> bool {
+        self.items == other.items
+    }
+}
+
+impl<T: Eq> Eq for Row<T> {
+    ghost use Rattle.std.specs.Cmp.Lexicographic.{lists_equiv};
+
+    ghost laws = { lists_equiv T.Eq.laws };
 }

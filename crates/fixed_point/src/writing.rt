@@ -3,6 +3,7 @@ ghost use Rattle.desk_io.specs.Causes.{HasCause};
 ghost use Rattle.desk_io.specs.Bytes.{Writes};
 ghost use Rattle.fixed_point.specs.Text.{decimals_text, point_text, size_text, number_text};
 
+use crate::limits::MOST_DECIMALS;
 use crate::power::power_of_ten;
 use desk_io::{Failed, Pen, Sink};
 use itoa::Buffer;
@@ -14,8 +15,9 @@ pub fn write_number<S: Sink>(
     pen: &mut Pen,
     sink: &mut S,
 ) -> Result<(), Failed>
-    requires { places ≤ 6 }
-    ensures bytes { Writes (S.written sink.old) (S.written sink.new) pen.old pen.new result (number_text places units) }
+    requires { places ≤ MOST_DECIMALS }
+    ensures bytes { Writes (S.written sink.old) (S.written sink.new) pen.old pen.new result
+        (number_text places units) }
     ensures cause { HasCause (S.faults sink.old) (S.faults sink.new) result }
 {
     let size = units.unsigned_abs();
@@ -28,8 +30,9 @@ pub fn write_number<S: Sink>(
 
 /// Writes a number of units without a sign.
 fn write_size<S: Sink>(places: u32, units: u64, pen: &mut Pen, sink: &mut S) -> Result<(), Failed>
-    requires { places ≤ 6 }
-    ensures bytes { Writes (S.written sink.old) (S.written sink.new) pen.old pen.new result (size_text places units) }
+    requires { places ≤ MOST_DECIMALS }
+    ensures bytes { Writes (S.written sink.old) (S.written sink.new) pen.old pen.new result
+        (size_text places units) }
     ensures cause { HasCause (S.faults sink.old) (S.faults sink.new) result }
 {
     let one = power_of_ten(places);
@@ -45,9 +48,10 @@ fn write_decimals<S: Sink>(
     pen: &mut Pen,
     sink: &mut S,
 ) -> Result<(), Failed>
-    requires places { places ≤ 6 }
+    requires places { places ≤ MOST_DECIMALS }
     requires below_one { units < 10 ^ places }
-    ensures bytes { Writes (S.written sink.old) (S.written sink.new) pen.old pen.new result (point_text (decimals_text places units)) }
+    ensures bytes { Writes (S.written sink.old) (S.written sink.new) pen.old pen.new result
+        (point_text (decimals_text places units)) }
     ensures cause { HasCause (S.faults sink.old) (S.faults sink.new) result }
 {
     if units == 0 {
@@ -59,9 +63,10 @@ fn write_decimals<S: Sink>(
 
 /// Writes decimals as long as anything is left for them.
 fn write_digits<S: Sink>(places: u32, units: u64, pen: &mut Pen, sink: &mut S) -> Result<(), Failed>
-    requires places { places ≤ 6 }
+    requires places { places ≤ MOST_DECIMALS }
     requires below_one { units < 10 ^ places }
-    ensures bytes { Writes (S.written sink.old) (S.written sink.new) pen.old pen.new result (decimals_text places units) }
+    ensures bytes { Writes (S.written sink.old) (S.written sink.new) pen.old pen.new result
+        (decimals_text places units) }
     ensures cause { HasCause (S.faults sink.old) (S.faults sink.new) result }
 {
     let mut place = places;

@@ -1,5 +1,6 @@
 use Rattle.std.proofs.Common.{arith}
-use Rattle.fixed_point.proofs.Places.{digit-small, rest-small, first-decimal, no-decimals, piece-failed, piece-written, all-written}
+use Rattle.desk_io.proofs.Going.{wrote, stopped, ended}
+use Rattle.fixed_point.proofs.Places.{digit-small, rest-small, first-decimal, no-decimals}
 use Rattle.fixed_point.proofs.writing.write_digits.Goals as goal
 
 pub overflow_cast-left : goal.overflow_cast-left
@@ -15,7 +16,7 @@ overflow_add-left g c =
 pub returns-in_err-push-clause-bytes : goal.returns-in_err-push-clause-bytes
 returns-in_err-push-clause-bytes g c =
     let first = first-decimal _ _ _ c.loop-left-test.true c.loop-left.invariant.below_one c.power_of_ten-unit.ensures.value in
-    piece-failed _ _ _ _ _ _ _ _ _ _ _ c.from_residual.ensures.0 c.loop-left.invariant.begun first c.in_err-push.ensures.bytes
+    stopped _ _ _ _ _ _ _ _ _ _ _ c.from_residual.ensures.0 c.loop-left.invariant.going first c.in_err-push.ensures.bytes
 
 pub loop-left-preserved : goal.loop-left-preserved
 loop-left-preserved g c =
@@ -24,9 +25,9 @@ loop-left-preserved g c =
       places = omega arith;
       below_one = rest-small _ _ _ c.power_of_ten-unit.ensures.value;
       later = omega (arith, c.in_ok-push.ensures.cause.later);
-      begun = piece-written _ _ _ _ _ _ _ _ _ _ c.loop-left.invariant.begun first c.in_ok-push.ensures.bytes;
+      going = wrote _ _ _ _ _ _ _ _ _ _ c.loop-left.invariant.going first c.in_ok-push.ensures.bytes;
     }
 
 pub returns-clause-bytes : goal.returns-clause-bytes
 returns-clause-bytes g c =
-    all-written _ _ _ _ _ _ c.loop-left.invariant.begun (no-decimals _ _ c.loop-left-test.false)
+    ended _ _ _ _ _ _ c.loop-left.invariant.going (no-decimals _ _ c.loop-left-test.false)

@@ -1,6 +1,6 @@
 use Rattle.std.proofs.Common.{ℕ}
 use Rattle.std.specs.Int.{IsGcd}
-use Rattle.edge_num.proofs.gcd.Given as goal
+use Rattle.edge_num.proofs.divisor.gcd.Given as goal
 
 -- A common divisor that is the greatest of the two numbers at hand is the greatest of the two given.
 abbrev pub invariant-loop-smaller : goal.invariant-loop-smaller

@@ -5,7 +5,7 @@ use mir.Syntax.{w128}
 use mir.Val.{SFits}
 use Rattle.edge_num.specs.Numbers.{nearest, IsNearest}
 use Rattle.edge_num.proofs.Nearest.{nearest_is_near}
-use Rattle.edge_num.proofs.round_div.Goals as goal
+use Rattle.edge_num.proofs.quotient.round_div.Goals as goal
 
 pub returns : goal.returns
 returns c =
