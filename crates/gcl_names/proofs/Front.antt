@@ -2,22 +2,27 @@
 use Rattle.std.proofs.Common.{◌≡◌, ℕ, ◌-◌, ◌≤◌, ◌<◌, List, [], ◌∷◌, ◌++◌, length, take, drop, get_or, Option, Some, None, Bool, Result, Ok, Err, refl, sym, ap, ◌∙◌, append_assoc, arith}
 use Rattle.std.proofs.lemmas.List.{append-nil}
 use Rattle.std.proofs.lemmas.Grind.{common_steps}
-use Rattle.gcl_reader.specs.declared.word.Place.{Place}
+use Rattle.gcl_reader.specs.declared.word.Parameter.{Parameter}
 use Rattle.gcl_reader.specs.declared.refusal.Refusal.{Refusal}
 use Rattle.gcl_reader.specs.declared.refusal.GclFault.{GclFault}
 use Rattle.gcl_reader.specs.declared.refusal.GclFault.TheVariants as fault
 use Rattle.gcl_reader.specs.declared.file.Arg.{Arg}
 use Rattle.gcl_reader.specs.declared.file.Command.{Command}
 use Rattle.gcl_reader.specs.Grammar.{◌>>=◌, Fails}
-use Rattle.gcl_names.specs.declared.meaning.Meaning.{Meaning}
+use Rattle.gcl_names.specs.Scope.{Meanings}
 use Rattle.gcl_names.specs.declared.meaning.Ref.{Ref}
 use Rattle.gcl_names.specs.declared.scope.Scope.{Scope}
 use Rattle.gcl_names.specs.declared.program.Act.{Act}
-use Rattle.gcl_names.specs.Reference.{is_circle, ref_in, refs_in}
+use Rattle.gcl_names.specs.Reference.{refers_to_circle, ref_in, refs_in}
 use Rattle.gcl_names.specs.Program.{act_in, acts_in, put}
 
-rest-is : {X : Type 0} (x : X) (xs : List X) → take (length (x ∷ xs) - 1) xs ≡ xs
+-- all but the first of some
+pub rest-is : {X : Type 0} (x : X) (xs : List X) → take (length (x ∷ xs) - 1) xs ≡ xs
 rest-is x xs = grind (arith, common_steps)
+
+-- all but the first, as a slice pattern gives it
+abbrev pub tail : {X : Type 0} → List X → List X
+tail xs = take (length xs - 1) (drop 1 xs)
 
 abbrev pub behind : {X : Type 0} → List X → Result (List X × Scope) Refusal → Result (List X × Scope) Refusal
 behind front read = read >>= λ x. Ok (front ++ x.0, x.1)
@@ -27,39 +32,39 @@ refs-regroup : (front : List Ref) (r : Ref) (read : Result (List Ref × Scope) R
 refs-regroup front r (Ok x) = ap (λ (xs : List Ref). Ok (xs, x.1)) (simp append_assoc)
 refs-regroup front r (Err f) = refl
 
-refs-cons : (front : List Ref) (p : Place) (ps : List Place) (a : Arg) (args : List Arg) (earlier : List (List ℕ × Meaning)) (c : Bool) (s after : Scope) (r : Ref) → ref_in p earlier c s a ≡ Ok (r, after) →
-    behind front (refs_in (p ∷ ps) (a ∷ args) earlier c s) ≡ behind (front ++ r ∷ []) (refs_in ps args earlier (is_circle r) after)
+refs-cons : (front : List Ref) (p : Parameter) (ps : List Parameter) (a : Arg) (args : List Arg) (earlier : Meanings) (c : Bool) (s after : Scope) (r : Ref) → ref_in p ps args earlier c s a ≡ Ok (r, after) →
+    behind front (refs_in (p ∷ ps) (a ∷ args) earlier c s) ≡ behind (front ++ r ∷ []) (refs_in ps args earlier (refers_to_circle r) after)
 unfolding refs_in
-refs-cons front p ps a args earlier c s after r h = rw h (refs-regroup front r (refs_in ps args earlier (is_circle r) after))
+refs-cons front p ps a args earlier c s after r h = rw h (refs-regroup front r (refs_in ps args earlier (refers_to_circle r) after))
 
 -- One more argument is resolved.
-pub refs-more : (front : List Ref) (d : Place) (ps : List Place) (a : Arg) (args : List Arg) (earlier : List (List ℕ × Meaning)) (c : Bool) (s after : Scope) (r : Ref) →
-    1 ≤ length ps → 1 ≤ length args → a ≡ get_or args 0 a → ref_in (get_or ps 0 d) earlier c s a ≡ Ok (r, after) →
-    behind (front ++ r ∷ []) (refs_in (take (length ps - 1) (drop 1 ps)) (take (length args - 1) (drop 1 args)) earlier (is_circle r) after) ≡ behind front (refs_in ps args earlier c s)
+pub refs-more : (front : List Ref) (d : Parameter) (ps : List Parameter) (a : Arg) (args : List Arg) (earlier : Meanings) (c : Bool) (s after : Scope) (r : Ref) →
+    1 ≤ length ps → 1 ≤ length args → a ≡ get_or args 0 a → ref_in (get_or ps 0 d) (tail ps) (tail args) earlier c s a ≡ Ok (r, after) →
+    behind (front ++ r ∷ []) (refs_in (tail ps) (tail args) earlier (refers_to_circle r) after) ≡ behind front (refs_in ps args earlier c s)
 refs-more front d [] a args earlier c s after r h k e m = absurd (omega (arith, h))
 refs-more front d (p ∷ ps) a [] earlier c s after r h k e m = absurd (omega (arith, k))
-refs-more front d (p ∷ ps) a (b ∷ args) earlier c s after r h k e m = rw (rest-is p ps, rest-is b args, ← e) (sym (refs-cons front p ps a args earlier c s after r m))
+refs-more front d (p ∷ ps) a (b ∷ args) earlier c s after r h k e m = rw (rest-is p ps, rest-is b args, ← e) (sym (refs-cons front p ps a args earlier c s after r (rw (rest-is p ps, rest-is b args) at m)))
 
 -- An argument refuses.
-pub refs-fail : (e : GclFault) (front : List Ref) (d : Place) (ps : List Place) (a : Arg) (args : List Arg) (earlier : List (List ℕ × Meaning)) (c : Bool) (s : Scope) (total : Result (List Ref × Scope) Refusal) →
-    1 ≤ length ps → 1 ≤ length args → a ≡ get_or args 0 a → Fails e (ref_in (get_or ps 0 d) earlier c s a) → behind front (refs_in ps args earlier c s) ≡ total → Fails e total
+pub refs-fail : (e : GclFault) (front : List Ref) (d : Parameter) (ps : List Parameter) (a : Arg) (args : List Arg) (earlier : Meanings) (c : Bool) (s : Scope) (total : Result (List Ref × Scope) Refusal) →
+    1 ≤ length ps → 1 ≤ length args → a ≡ get_or args 0 a → Fails e (ref_in (get_or ps 0 d) (tail ps) (tail args) earlier c s a) → behind front (refs_in ps args earlier c s) ≡ total → Fails e total
 unfolding refs_in
 refs-fail e front d [] a args earlier c s total h k i m so_far = absurd (omega (arith, h))
 refs-fail e front d (p ∷ ps) a [] earlier c s total h k i m so_far = absurd (omega (arith, k))
 refs-fail fault.OutOfMemory front d (p ∷ ps) a (b ∷ args) earlier c s total h k i m so_far = tt
 refs-fail (fault.Refused f) front d (p ∷ ps) a (b ∷ args) earlier c s total h k i m so_far =
-    let one : behind front (refs_in (p ∷ ps) (a ∷ args) earlier c s) ≡ Err f = rw m refl in
+    let one : behind front (refs_in (p ∷ ps) (a ∷ args) earlier c s) ≡ Err f = rw (rw (rest-is p ps, rest-is b args) at m) refl in
     sym so_far ∙ rw (← i) one
 
 -- Every place has its argument.
-pub refs-done : (front : List Ref) (ps : List Place) (args : List Arg) (earlier : List (List ℕ × Meaning)) (c : Bool) (s : Scope) (total : Result (List Ref × Scope) Refusal) →
+pub refs-done : (front : List Ref) (ps : List Parameter) (args : List Arg) (earlier : Meanings) (c : Bool) (s : Scope) (total : Result (List Ref × Scope) Refusal) →
     length ps < 1 → behind front (refs_in ps args earlier c s) ≡ total → total ≡ Ok (front, s)
 unfolding refs_in
 refs-done front [] args earlier c s total h so_far = sym so_far ∙ ap (λ (xs : List Ref). Ok (xs, s)) (append-nil front)
 refs-done front (p ∷ ps) args earlier c s total h so_far = absurd (omega (arith, h))
 
 -- No argument is left.
-pub refs-short : (front : List Ref) (ps : List Place) (args : List Arg) (earlier : List (List ℕ × Meaning)) (c : Bool) (s : Scope) (total : Result (List Ref × Scope) Refusal) →
+pub refs-short : (front : List Ref) (ps : List Parameter) (args : List Arg) (earlier : Meanings) (c : Bool) (s : Scope) (total : Result (List Ref × Scope) Refusal) →
     length args < 1 → behind front (refs_in ps args earlier c s) ≡ total → total ≡ Ok (front, s)
 unfolding refs_in
 refs-short front [] args earlier c s total h so_far = sym so_far ∙ ap (λ (xs : List Ref). Ok (xs, s)) (append-nil front)

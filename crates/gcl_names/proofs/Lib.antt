@@ -1,5 +1,6 @@
 pub mod Entries
 pub mod Front
+pub mod Made
 pub mod Kept
 pub mod Rising
 pub mod Below

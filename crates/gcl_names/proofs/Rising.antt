@@ -1,6 +1,10 @@
 -- The counts of a program only rise.
 use Rattle.std.proofs.Common.{ℕ, ◌+◌, ◌≤◌, List, [], ◌∷◌, arith}
-use Rattle.gcl_names.specs.Sound.{Counts, after, after_all}
+use Rattle.gcl_names.specs.Sound.{Counts, filled, all_filled, after, after_all}
+use Rattle.gcl_reader.specs.Table.{parameters_of}
+use Rattle.gcl_reader.specs.declared.word.Parameter.{Parameter}
+use Rattle.gcl_reader.specs.declared.word.Parameter.TheVariants as parameter
+use Rattle.gcl_names.specs.Deed.{word_of}
 use Rattle.gcl_names.specs.declared.program.Deed.{Deed}
 use Rattle.gcl_names.specs.declared.program.Deed.TheVariants as deed
 use Rattle.gcl_names.specs.declared.program.Act.{Act}
@@ -34,25 +38,21 @@ at_most-then n k m g h = record {
   proves = omega (arith, g.proves, h.proves);
 }
 
+-- Behind an argument no count is lower, nor behind all.
+pub filled-rises : (p : Parameter) (n : Counts) → AtMost n (filled p n)
+filled-rises parameter.NewPoint n = more-points n 1
+filled-rises parameter.NewLine n = more-lines n 1
+filled-rises parameter.NewCircle n = more-circles n 1
+filled-rises p n = same n
+
+pub all_filled-rises : (ps : List Parameter) (n : Counts) → AtMost n (all_filled ps n)
+all_filled-rises [] n = same n
+all_filled-rises (p ∷ ps) n = at_most-then n (filled p n) (all_filled ps (filled p n)) (filled-rises p n) (all_filled-rises ps (filled p n))
+
 -- After a deed no count is lower.
 pub after-rises : (n : Counts) (d : Deed) → AtMost n (after n d)
-after-rises n (deed.Point p x y) = more-points n 1
-after-rises n (deed.Line l a b) = more-lines n 1
-after-rises n (deed.Circle k o a) = more-circles n 1
-after-rises n (deed.Intersec x a b) = more-points n 1
-after-rises n (deed.CutLine x y k a) = more-points n 2
-after-rises n (deed.CutCircle x y k m) = more-points n 2
-after-rises n (deed.Midpoint m a b) = more-points n 1
-after-rises n (deed.Med m a b) = more-lines n 1
-after-rises n (deed.Perp p a l) = more-lines n 1
-after-rises n (deed.Parallel p a l) = more-lines n 1
-after-rises n (deed.Foot f a l) = more-points n 1
-after-rises n (deed.Online x a b) = more-points n 1
-after-rises n (deed.Oncircle x o a) = more-points n 1
-after-rises n (deed.Translate x a b c) = more-points n 1
-after-rises n (deed.Towards x a b r) = more-points n 1
 after-rises n (deed.Prove s ps) = more-proves n 1
-after-rises n d = same n
+after-rises n d = all_filled-rises (parameters_of (word_of d)) n
 
 -- Nor after more acts. So the counts on the way are at most those of the whole program, which have limits.
 pub after_all-rises : (n : Counts) (acts : List Act) → AtMost n (after_all n acts)

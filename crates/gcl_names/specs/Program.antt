@@ -1,37 +1,43 @@
 -- The program of a file: its commands in order, each with numbers in place of names.
 use Rattle.std.specs.Prelude.{ℕ, ◌+◌, List, [], ◌∷◌, Option, Some, None, option_map, Result, Ok, Err, if◌then◌else◌, nat_le, false}
 use Rattle.gcl_reader.specs.Grammar.{◌>>=◌, file_of}
-use Rattle.gcl_reader.specs.Table.{places_of}
-use Rattle.gcl_reader.specs.declared.word.Word.{Word}
-use Rattle.gcl_reader.specs.declared.word.Word.TheVariants as word
+use Rattle.gcl_reader.specs.Span.{refusal, span_of_command}
+use Rattle.gcl_reader.specs.Table.{parameters_of}
+use Rattle.gcl_reader.specs.Spelling.{statement_in}
+use Rattle.gcl_reader.specs.declared.word.Statement.{Statement}
+use Rattle.gcl_reader.specs.declared.span.Span.{Span}
 use Rattle.gcl_reader.specs.declared.refusal.Kind.TheVariants as kind
 use Rattle.gcl_reader.specs.declared.refusal.Refusal.{Refusal}
 use Rattle.gcl_reader.specs.declared.file.Command.{Command}
-use Rattle.gcl_names.specs.Limits.{most_proves}
 use Rattle.gcl_names.specs.Scope.{nothing_defined}
 use Rattle.gcl_names.specs.Reference.{refs_in}
 use Rattle.gcl_names.specs.Deed.{deed_of}
+use Rattle.gcl_names.specs.declared.limits.TheConstants.{MOST_PROVES}
 use Rattle.gcl_names.specs.declared.scope.Scope.{Scope}
 use Rattle.gcl_names.specs.declared.program.Deed.{Deed}
 use Rattle.gcl_names.specs.declared.program.Act.{Act}
 use Rattle.gcl_names.specs.declared.program.Program.{Program}
 
--- A prove is counted at its word, in front of its arguments.
-abbrev pub counted : Command → Word → Scope → Result Scope Refusal
-counted c (word.Prove s) scope =
-    if nat_le most_proves scope.proves then Err (record { line = c.line; kind = kind.TooManyProves; at = c.at; len = c.len })
+-- A statement to be proved is counted at its command's word, in front of the arguments.
+abbrev pub counted : Command → Option Statement → Scope → Result Scope Refusal
+counted c None scope = Ok scope
+counted c (Some s) scope =
+    if nat_le MOST_PROVES scope.proves then Err (refusal kind.TooManyProves (span_of_command c))
     else Ok (record scope { proves = scope.proves + 1 })
-counted c _ scope = Ok scope
 
 -- The act stands where its command does.
 abbrev pub act_with : Command → Deed → Act
 act_with c d = record { line = c.line; at = c.at; len = c.len; deed = d }
 
+-- Where an act's command stands.
+abbrev pub span_of_act : Act → Span
+span_of_act a = record { line = a.line; at = a.at; len = a.len }
+
 -- The act of a command, behind the commands that made the scope. A fitting command has one.
 unfoldable pub act_in : Command → Scope → Result (Option Act × Scope) Refusal
 act_in c s = do
-  start ← counted c c.word s
-  refs ← refs_in (places_of c.word) c.args start.names false start
+  start ← counted c (statement_in c.word) s
+  refs ← refs_in (parameters_of c.word) c.args start.names false start
   Ok (option_map (act_with c) (deed_of c.word refs.0), refs.1)
 
 -- An act, where there is one, in front of others.
@@ -49,7 +55,8 @@ acts_in (c ∷ commands) s = do
 
 -- Acts, with what they define and ask for.
 abbrev pub program_with : List Act → Scope → Program
-program_with acts s = record { acts = acts; points = s.points; lines = s.lines; circles = s.circles; proves = s.proves }
+program_with acts s =
+    record { acts = acts; points = s.points; lines = s.lines; circles = s.circles; proves = s.proves }
 
 -- The commands of a file, resolved.
 unfoldable pub resolved : List Command → Result Program Refusal

@@ -4,8 +4,12 @@ use Rattle.std.specs.Str.{bytes_eq}
 use Rattle.gcl_names.specs.declared.meaning.Meaning.{Meaning}
 use Rattle.gcl_names.specs.declared.scope.Scope.{Scope}
 
--- What a text means in a list of names.
-unfoldable pub meaning_in : List ℕ → List (List ℕ × Meaning) → Option Meaning
+-- Names, with what they mean.
+abbrev pub Meanings : Type 0
+Meanings = List (List ℕ × Meaning)
+
+-- What a text means among them.
+unfoldable pub meaning_in : List ℕ → Meanings → Option Meaning
 meaning_in text [] = None
 meaning_in text (e ∷ es) = if bytes_eq text e.0 then Some e.1 else meaning_in text es
 

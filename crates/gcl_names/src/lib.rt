@@ -2,6 +2,7 @@
 #![tactic(auto)]
 
 mod deed;
+mod limits;
 mod meaning;
 mod points;
 mod program;
@@ -10,6 +11,7 @@ mod resolution;
 mod scope;
 mod table;
 
+pub use limits::{MOST_POINTS, MOST_PROVES};
 pub use program::{Act, Deed, Program};
 pub use resolution::resolve;
 

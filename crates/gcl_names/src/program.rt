@@ -1,10 +1,12 @@
 // Programs, as a file's names resolve to them.
+ghost use Rattle.std.specs.Prelude.{◌≡◌};
+
 use fixed_point::{Fix, Row};
-use gcl_reader::{Name, Side, Statement};
+use gcl_reader::{Name, Side, Span, Statement};
 
 /// What a command does. Points, lines and circles each have numbers of their own, from 0 in order of definition; the
 /// payload has the command's arguments in their order.
-#[derive(Drop)]
+#[derive(Clone, Debug, PartialEq, Drop)]
 pub enum Deed {
     Dim(Fix, Fix),
     Color(u8, u8, u8),
@@ -48,7 +50,7 @@ pub enum Deed {
 }
 
 /// A command, and where its word stands.
-#[derive(Drop)]
+#[derive(Clone, Debug, PartialEq, Drop)]
 pub struct Act {
     pub line: u32,
     pub at: u32,
@@ -56,8 +58,23 @@ pub struct Act {
     pub deed: Deed,
 }
 
+impl Act {
+    ghost use Rattle.gcl_names.specs.Program.{span_of_act};
+
+    /// Where its command's word stands.
+    pub fn span(&self) -> Span
+        ensures { result ≡ span_of_act self.now }
+    {
+        Span {
+            line: self.line,
+            at: self.at,
+            len: self.len,
+        }
+    }
+}
+
 /// A file whose names are resolved.
-#[derive(Drop)]
+#[derive(Clone, Debug, PartialEq, Drop)]
 pub struct Program {
     pub acts: Row<Act>,
     /// The names of the points, in order of definition.

@@ -1,27 +1,14 @@
-ghost use Rattle.std.specs.Prelude.{◌≡◌, ◌+◌, ◌≤◌, ◌<◌, ◌^◌, length, take, false, None};
+ghost use Rattle.std.specs.Prelude.{◌≡◌, ◌+◌, ◌≤◌, ◌<◌, ◌^◌, [], length, take, false, None, IsTrue};
 ghost use Rattle.gcl_reader.specs.Grammar.{Gives};
-ghost use Rattle.gcl_reader.specs.declared.word.Place.TheVariants as place;
+ghost use Rattle.gcl_reader.specs.declared.word.Parameter.TheVariants as parameter;
 ghost use Rattle.gcl_names.specs.Scope.{meaning_in};
-ghost use Rattle.gcl_names.specs.Reference.{refused, ref_of, is_circle, takes, used, made, new_name, ref_in, refs_in};
+ghost use Rattle.gcl_names.specs.Reference.{ref_of, refers_to_circle, takes, used, new_point, new_line, new_circle, is_new, is_named, makes, is_made, new_name, name_in, ref_in, refs_in};
 
+use crate::limits::MOST_POINTS;
 use crate::meaning::{Meaning, Ref};
 use crate::scope::Scope;
-use gcl_reader::{Arg, GclFault, Kind, Name, Place, Refusal, What};
+use gcl_reader::{Arg, GclFault, Kind, Name, Parameter, Refusal, What};
 use std::alloc::Global;
-
-/// The most points of a file.
-const MOST_POINTS: usize = 1_000;
-
-fn refused(kind: Kind, arg: &Arg) -> Refusal
-    ensures { result ≡ refused kind arg.now }
-{
-    Refusal {
-        line: arg.line,
-        kind,
-        at: arg.at,
-        len: arg.len,
-    }
-}
 
 fn ref_of(meaning: Meaning) -> Ref
     ensures { result ≡ ref_of meaning }
@@ -33,54 +20,51 @@ fn ref_of(meaning: Meaning) -> Ref
     }
 }
 
-fn is_circle(reference: &Ref) -> bool
-    ensures { result ≡ is_circle reference.now }
+fn refers_to_circle(reference: &Ref) -> bool
+    ensures { result ≡ refers_to_circle reference.now }
 {
-    match reference {
-        Ref::Circle(_) => true,
-        _ => false,
-    }
+    matches!(reference, Ref::Circle(_))
 }
 
-fn takes(place: Place, behind_circle: bool, meaning: Meaning) -> bool
-    ensures { result ≡ takes place behind_circle meaning }
+fn takes(parameter: Parameter, behind_circle: bool, meaning: Meaning) -> bool
+    ensures { result ≡ takes parameter behind_circle meaning }
 {
-    match (place, meaning) {
-        (Place::Point, Meaning::Point(_)) => true,
-        (Place::Line | Place::Curve, Meaning::Line(_)) => true,
-        (Place::OtherCurve, Meaning::Line(_)) => behind_circle,
-        (Place::Circle | Place::Curve | Place::OtherCurve, Meaning::Circle(_)) => true,
+    match (parameter, meaning) {
+        (Parameter::Point, Meaning::Point(_)) => true,
+        (Parameter::Line | Parameter::Curve, Meaning::Line(_)) => true,
+        (Parameter::OtherCurve, Meaning::Line(_)) => behind_circle,
+        (Parameter::Circle | Parameter::Curve | Parameter::OtherCurve, Meaning::Circle(_)) => true,
         _ => false,
     }
 }
 
 fn used(
-    place: Place,
+    parameter: Parameter,
     behind_circle: bool,
     found: Option<Meaning>,
     arg: &Arg,
 ) -> Result<Ref, Refusal>
-    ensures { result ≡ used place behind_circle found arg.now }
+    ensures { result ≡ used parameter behind_circle found arg.now }
 {
     let Some(meaning) = found else {
-        return Err(refused(Kind::Undefined, arg));
+        return Err(arg.span().refusal(Kind::Undefined));
     };
-    if takes(place, behind_circle, meaning) {
+    if takes(parameter, behind_circle, meaning) {
         Ok(ref_of(meaning))
     } else {
-        Err(refused(Kind::WrongKind, arg))
+        Err(arg.span().refusal(Kind::WrongKind))
     }
 }
 
-fn make_point<'f>(name: &'f Name, scope: &mut Scope<'f>, arg: &Arg) -> Result<Ref, GclFault>
+fn new_point<'f>(name: &'f Name, scope: &mut Scope<'f>, arg: &Arg) -> Result<Ref, GclFault>
     requires { meaning_in name.now scope.old.names ≡ None }
     ensures lines { scope.new.lines ≡ scope.old.lines }
     ensures circles { scope.new.circles ≡ scope.old.circles }
-    ensures value { Gives (λ r. (r, scope.new)) result (made place.NewPoint name.entry.now scope.old arg.now) }
+    ensures value { Gives (λ r. (r, scope.new)) result (new_point name.entry.now scope.old arg.now) }
 {
     let count = scope.points.len();
-    if count >= MOST_POINTS {
-        return Err(GclFault::Refused(refused(Kind::TooManyPoints, arg)));
+    if count as u64 >= MOST_POINTS {
+        return Err(GclFault::Refused(arg.span().refusal(Kind::TooManyPoints)));
     }
     let k = count as u32;
     scope.names.define(name.bytes(), Meaning::Point(k))?;
@@ -88,12 +72,12 @@ fn make_point<'f>(name: &'f Name, scope: &mut Scope<'f>, arg: &Arg) -> Result<Re
     Ok(Ref::Point(k))
 }
 
-fn make_line<'f>(name: &'f Name, scope: &mut Scope<'f>, arg: &Arg) -> Result<Ref, GclFault>
+fn new_line<'f>(name: &'f Name, scope: &mut Scope<'f>) -> Result<Ref, GclFault>
     requires fresh { meaning_in name.now scope.old.names ≡ None }
     requires few { scope.old.lines < 2 ^ 31 }
     ensures lines { scope.new.lines ≤ scope.old.lines + 1 }
     ensures circles { scope.new.circles ≡ scope.old.circles }
-    ensures value { Gives (λ r. (r, scope.new)) result (made place.NewLine name.entry.now scope.old arg.now) }
+    ensures value { Gives (λ r. (r, scope.new)) result (new_line name.entry.now scope.old) }
 {
     let k = scope.lines;
     scope.names.define(name.bytes(), Meaning::Line(k))?;
@@ -101,12 +85,12 @@ fn make_line<'f>(name: &'f Name, scope: &mut Scope<'f>, arg: &Arg) -> Result<Ref
     Ok(Ref::Line(k))
 }
 
-fn make_circle<'f>(name: &'f Name, scope: &mut Scope<'f>, arg: &Arg) -> Result<Ref, GclFault>
+fn new_circle<'f>(name: &'f Name, scope: &mut Scope<'f>) -> Result<Ref, GclFault>
     requires fresh { meaning_in name.now scope.old.names ≡ None }
     requires few { scope.old.circles < 2 ^ 31 }
     ensures lines { scope.new.lines ≡ scope.old.lines }
     ensures circles { scope.new.circles ≤ scope.old.circles + 1 }
-    ensures value { Gives (λ r. (r, scope.new)) result (made place.NewCircle name.entry.now scope.old arg.now) }
+    ensures value { Gives (λ r. (r, scope.new)) result (new_circle name.entry.now scope.old) }
 {
     let k = scope.circles;
     scope.names.define(name.bytes(), Meaning::Circle(k))?;
@@ -114,32 +98,84 @@ fn make_circle<'f>(name: &'f Name, scope: &mut Scope<'f>, arg: &Arg) -> Result<R
     Ok(Ref::Circle(k))
 }
 
+fn is_new(parameter: Parameter) -> bool
+    ensures { result ≡ is_new parameter }
+{
+    matches!(
+        parameter,
+        Parameter::NewPoint | Parameter::NewLine | Parameter::NewCircle
+    )
+}
+
+fn is_named(name: &Name, what: &What) -> bool
+    ensures { result ≡ is_named name.now what.now }
+{
+    match what {
+        What::Name(other) => name.bytes() == other.bytes(),
+        What::Number(_) => false,
+    }
+}
+
+/// Whether an argument makes something under the name.
+fn makes(name: &Name, parameter: Parameter, arg: &Arg) -> bool
+    ensures { result ≡ makes name.now parameter arg.now }
+{
+    is_new(parameter) && is_named(name, &arg.what)
+}
+
+/// Whether one of the arguments does.
+#[tactic(auto, unfolding(crate::specs::Reference::is_made))]
+fn is_made(name: &Name, parameters: &[Parameter], args: &[Arg]) -> bool
+    ensures { result ≡ is_made name.now parameters.now args.now }
+{
+    let mut rest_parameters = parameters;
+    let mut rest_args = args;
+    while let [parameter, parameters_after @ ..] = rest_parameters {
+        let [arg, args_after @ ..] = rest_args else {
+            return false;
+        };
+        if makes(name, *parameter, arg) {
+            return true;
+        }
+        rest_parameters = parameters_after;
+        rest_args = args_after;
+    }
+    false
+}
+
+/// A name in the place of a new one; whether it is made again behind it in its command is known.
 fn new_name<'f>(
-    place: Place,
+    parameter: Parameter,
+    again: bool,
     name: &'f Name,
     scope: &mut Scope<'f>,
     arg: &Arg,
 ) -> Result<Ref, GclFault>
+    requires new { IsTrue (is_new parameter) }
     requires lines { scope.old.lines < 2 ^ 31 }
     requires circles { scope.old.circles < 2 ^ 31 }
     ensures lines { scope.new.lines ≤ scope.old.lines + 1 }
     ensures circles { scope.new.circles ≤ scope.old.circles + 1 }
-    ensures value { Gives (λ r. (r, scope.new)) result (new_name place name.entry.now scope.old arg.now) }
+    ensures value { Gives (λ r. (r, scope.new)) result
+        (name_in parameter again [] false scope.old arg.now name.entry.now) }
 {
-    if scope.names.has(name.bytes()) {
-        return Err(GclFault::Refused(refused(Kind::Twice, arg)));
+    if again || scope.names.has(name.bytes()) {
+        return Err(GclFault::Refused(arg.span().refusal(Kind::Twice)));
     }
-    match place {
-        Place::NewPoint => make_point(name, scope, arg),
-        Place::NewLine => make_line(name, scope, arg),
-        _ => make_circle(name, scope, arg),
+    match parameter {
+        Parameter::NewPoint => new_point(name, scope, arg),
+        Parameter::NewLine => new_line(name, scope),
+        _ => new_circle(name, scope),
     }
 }
 
+/// An argument for its parameter, in front of other parameters and arguments. The first names are those of earlier
+/// commands.
 #[tactic(auto, unfolding(crate::specs::Reference::ref_in))]
-/// An argument in its place. The first names are those of earlier commands.
 fn ref_in<'f>(
-    place: Place,
+    parameter: Parameter,
+    parameters_after: &[Parameter],
+    args_after: &[Arg],
     first: usize,
     behind_circle: bool,
     scope: &mut Scope<'f>,
@@ -149,17 +185,22 @@ fn ref_in<'f>(
     requires circles { scope.old.circles < 2 ^ 31 }
     ensures lines { scope.new.lines ≤ scope.old.lines + 1 }
     ensures circles { scope.new.circles ≤ scope.old.circles + 1 }
-    ensures value { Gives (λ r. (r, scope.new)) result (ref_in place (take first scope.old.names) behind_circle scope.old arg.entry.now) }
+    ensures value { Gives (λ r. (r, scope.new)) result
+        (ref_in parameter parameters_after.now args_after.now (take first scope.old.names)
+        behind_circle scope.old arg.entry.now) }
 {
     let name = match &arg.what {
         What::Number(n) => return Ok(Ref::Number(*n)),
         What::Name(name) => name,
     };
-    match place {
-        Place::NewPoint | Place::NewLine | Place::NewCircle => new_name(place, name, scope, arg),
+    match parameter {
+        Parameter::NewPoint | Parameter::NewLine | Parameter::NewCircle => {
+            let again = is_made(name, parameters_after, args_after);
+            new_name(parameter, again, name, scope, arg)
+        }
         _ => {
             let found = scope.names.find(name.bytes(), first);
-            match used(place, behind_circle, found, arg) {
+            match used(parameter, behind_circle, found, arg) {
                 Ok(reference) => Ok(reference),
                 Err(refusal) => Err(GclFault::Refused(refusal)),
             }
@@ -167,32 +208,41 @@ fn ref_in<'f>(
     }
 }
 
-/// The arguments of a command in their places.
+/// The arguments of a command, each for its parameter.
 pub fn refs_in<'f>(
     alloc: Global,
-    places: &[Place],
+    parameters: &[Parameter],
     args: &'f [Arg],
     scope: &mut Scope<'f>,
 ) -> Result<Vec<Ref>, GclFault>
-    requires lines { scope.old.lines + length places.now < 2 ^ 31 }
-    requires circles { scope.old.circles + length places.now < 2 ^ 31 }
-    ensures lines { scope.new.lines ≤ scope.old.lines + length places.now }
-    ensures circles { scope.new.circles ≤ scope.old.circles + length places.now }
-    ensures value { Gives (λ v. (v.items, scope.new)) result (refs_in places.now args.entry.now scope.old.names false scope.old) }
+    requires lines { scope.old.lines + length parameters.now < 2 ^ 31 }
+    requires circles { scope.old.circles + length parameters.now < 2 ^ 31 }
+    ensures lines { scope.new.lines ≤ scope.old.lines + length parameters.now }
+    ensures circles { scope.new.circles ≤ scope.old.circles + length parameters.now }
+    ensures value { Gives (λ v. (v.items, scope.new)) result
+        (refs_in parameters.now args.entry.now scope.old.names false scope.old) }
 {
     let first = scope.names.len();
     let mut refs = Vec::new(alloc);
     let mut behind_circle = false;
-    let mut rest_places = places;
+    let mut rest_parameters = parameters;
     let mut rest_args = args;
-    while let [place, places_after @ ..] = rest_places {
+    while let [parameter, parameters_after @ ..] = rest_parameters {
         let [arg, args_after @ ..] = rest_args else {
             return Ok(refs);
         };
-        let reference = ref_in(*place, first, behind_circle, scope, arg)?;
-        behind_circle = is_circle(&reference);
+        let reference = ref_in(
+            *parameter,
+            parameters_after,
+            args_after,
+            first,
+            behind_circle,
+            scope,
+            arg,
+        )?;
+        behind_circle = refers_to_circle(&reference);
         refs.push(reference)?;
-        rest_places = places_after;
+        rest_parameters = parameters_after;
         rest_args = args_after;
     }
     Ok(refs)

@@ -1,34 +1,29 @@
 ghost use Rattle.std.specs.Prelude.{◌≡◌, ◌+◌, ◌*◌, ◌≤◌, ◌<◌, ◌^◌, ◌++◌, [], length, OnOk, IfOk, option_map};
 ghost use Rattle.gcl_reader.specs.Fitting.{IsFitting};
 ghost use Rattle.gcl_reader.specs.Grammar.{Gives};
+ghost use Rattle.gcl_reader.specs.Spelling.{statement_in};
 ghost use Rattle.gcl_names.specs.Program.{counted, act_with, act_in, put, acts_in, resolved};
 ghost use Rattle.gcl_names.specs.Sound.{IsSound};
 
 use crate::deed::deed_of;
+use crate::limits::MOST_PROVES;
 use crate::program::{Act, Deed, Program};
 use crate::reference::refs_in;
 use crate::scope::Scope;
 use fixed_point::Row;
-use gcl_reader::{Command, File, GclFault, Kind, Refusal, Word, places_of};
+use gcl_reader::{Command, File, GclFault, Kind, Word, parameters_of};
 use std::alloc::{AllocError, Global};
-
-/// The most statements to be proved in a file.
-const MOST_PROVES: u32 = 16;
 
 /// Counts a statement to be proved.
 fn count_prove(command: &Command, scope: &mut Scope<'_>) -> Result<(), GclFault>
     ensures lines { scope.new.lines ≡ scope.old.lines }
     ensures circles { scope.new.circles ≡ scope.old.circles }
-    ensures value { Gives (λ _. scope.new) result (counted command.now command.now.word scope.old) }
+    ensures value { Gives (λ _. scope.new) result
+        (counted command.now (statement_in command.now.word) scope.old) }
 {
     if let Word::Prove(_) = command.word {
         if scope.proves >= MOST_PROVES {
-            return Err(GclFault::Refused(Refusal {
-                line: command.line,
-                kind: Kind::TooManyProves,
-                at: command.at,
-                len: command.len,
-            }));
+            return Err(GclFault::Refused(command.span().refusal(Kind::TooManyProves)));
         }
         scope.proves += 1;
     }
@@ -50,8 +45,8 @@ fn act_with(command: &Command, deed: Option<Deed>) -> Option<Act>
     }
 }
 
-#[tactic(auto, unfolding(crate::specs::Program::act_in))]
 /// The act of a command, behind the commands that made the scope.
+#[tactic(auto, unfolding(crate::specs::Program::act_in))]
 fn act_in<'f>(
     alloc: Global,
     command: &'f Command,
@@ -64,9 +59,9 @@ fn act_in<'f>(
     ensures value { Gives (λ a. (a, scope.new)) result (act_in command.entry.now scope.old) }
 {
     count_prove(command, scope)?;
-    let places = places_of(command.word);
-    let refs = refs_in(alloc, places, command.args.as_slice(), scope)?;
-    let deed = deed_of(alloc, command.word, refs.as_slice())?;
+    let parameters = parameters_of(&command.word);
+    let refs = refs_in(alloc, parameters, command.args.as_slice(), scope)?;
+    let deed = deed_of(alloc, &command.word, refs.as_slice())?;
     Ok(act_with(command, deed))
 }
 
@@ -100,15 +95,17 @@ fn acts_in<'f>(
     Ok(acts)
 }
 
-#[tactic(auto, unfolding(crate::specs::Program::resolved))]
 /// Resolves the names of a file: gives points, lines and circles numbers in place of their names.
 ///
-/// Refused is the first argument in the text that is undefined, defined twice or of another kind than its place
-/// wants, or with which there are too many points; or the word of a `prove` with which there are too many.
+/// Refused is the first argument in the text that is undefined, defined twice or of another kind than its parameter
+/// wants, or with which there are too many points; or the word of a `prove` with which there are too many. Of two equal
+/// new names of a command the first is refused.
+#[tactic(auto, unfolding(crate::specs::Program::resolved))]
 pub fn resolve(alloc: Global, file: &File) -> Result<Program, GclFault>
     requires { IsFitting file.now.commands }
     ensures value { Gives (λ p. p) result (resolved file.now.commands) }
     ensures sound { IfOk result (λ p. IsSound p) }
+    ensures whole { IfOk result (λ p. length p.acts ≡ length file.now.commands) }
 {
     let mut scope = Scope::new(alloc);
     let acts = acts_in(alloc, file.commands.as_slice(), &mut scope)?;

@@ -3,17 +3,18 @@ use Rattle.std.proofs.Common.{◌≡◌, ℕ, ◌+◌, ◌<◌, List, [], ◌∷
 use Rattle.std.specs.List.{take_while}
 use Rattle.std.proofs.lemmas.List.Sums.{take_while-cons}
 use Rattle.std.proofs.lemmas.Grind.{common_steps}
+use Rattle.std.proofs.lemmas.Bool.{or_parts, not-true}
 use Rattle.std.proofs.lemmas.Bool.Decides.{nat_tests}
-use Rattle.gcl_reader.specs.Tokens.{Token, Lexed, Between, Inside, tokens_from, last_line, ahead_of, put, is_word, is_brace, is_blank, begins_token}
+use Rattle.gcl_reader.specs.Tokens.{Token, Lexed, Between, Inside, tokens_from, last_line, ahead_of, put, is_word, is_brace, is_blank, begins_token, percent, line_feed}
 
 abbrev word_len : List ℕ → ℕ
 word_len bytes = length (take_while is_word bytes)
 
-word-lf : (b : ℕ) → is_word b ≡ true → (b == 10) ≡ false
+word-lf : (b : ℕ) → is_word b ≡ true → (b == line_feed) ≡ false
 unfolding is_word
 word-lf b e = grind (arith, nat_tests)
 
-word-percent : (b : ℕ) → is_word b ≡ true → (b == 37) ≡ false
+word-percent : (b : ℕ) → is_word b ≡ true → (b == percent) ≡ false
 unfolding is_word
 word-percent b e = grind (arith, nat_tests)
 
@@ -21,11 +22,11 @@ word-blank : (b : ℕ) → is_word b ≡ true → is_blank b ≡ false
 unfolding is_word is_blank
 word-blank b e = grind (arith, nat_tests)
 
-brace-lf : (b : ℕ) → is_brace b ≡ true → (b == 10) ≡ false
+brace-lf : (b : ℕ) → is_brace b ≡ true → (b == line_feed) ≡ false
 unfolding is_brace
 brace-lf b e = grind (arith, nat_tests)
 
-brace-percent : (b : ℕ) → is_brace b ≡ true → (b == 37) ≡ false
+brace-percent : (b : ℕ) → is_brace b ≡ true → (b == percent) ≡ false
 unfolding is_brace
 brace-percent b e = grind (arith, nat_tests)
 
@@ -33,7 +34,7 @@ brace-blank : (b : ℕ) → is_brace b ≡ true → is_blank b ≡ false
 unfolding is_brace is_blank
 brace-blank b e = grind (arith, nat_tests)
 
-blank-lf : (b : ℕ) → is_blank b ≡ false → (b == 10) ≡ false
+blank-lf : (b : ℕ) → is_blank b ≡ false → (b == line_feed) ≡ false
 unfolding is_blank
 blank-lf b e = grind (arith, nat_tests)
 
@@ -94,18 +95,13 @@ unfolding tokens_from last_line
 brace-cut line last at [] h w e = absurd (omega (arith, h))
 brace-cut line last at (b ∷ bs) h w e = simp (w, e, brace-lf b e, brace-percent b e, brace-blank b e) (grind (arith, common_steps))
 
-neither : (x y : Bool) → not (x || y) ≡ true → (x ≡ false) × (y ≡ false)
-neither true y h = cc
-neither false true h = cc
-neither false false h = (refl, refl)
-
 -- So is a byte that is no text, without text.
 pub other-cut : (line last at : ℕ) (bytes : List ℕ) → 0 < length bytes → is_word (get_or bytes 0 0) ≡ false → is_brace (get_or bytes 0 0) ≡ false → begins_token bytes →
     ahead_of Between line last at bytes ≡ put (record { line = line; at = at; text = take 0 bytes }) (ahead_of Between line line (at + 1) (drop 1 bytes))
 unfolding tokens_from last_line
 other-cut line last at [] h w e k = absurd (omega (arith, h))
 other-cut line last at (b ∷ bs) h w e k =
-    let p = neither (is_blank b) (b == 37) k in simp (w, e, p.0, p.1, blank-lf b p.0) (grind (arith, common_steps))
+    let p = or_parts (is_blank b) (b == percent) (not-true (is_blank b || (b == percent)) k) in simp (w, e, p.0, p.1, blank-lf b p.0) (grind (arith, common_steps))
 
 -- Where the bytes have ended, so has the file.
 pub none-ahead : (line last at : ℕ) (bytes : List ℕ) → length bytes < 1 → ahead_of Between line last at bytes ≡ record { tokens = []; end_line = last; end_at = at }

@@ -3,7 +3,7 @@ use Rattle.std.proofs.Common.{◌≡◌, ℕ, zero, suc, ◌-◌, ◌+◌, ◌�
 use Rattle.std.proofs.lemmas.List.{append-nil}
 use Rattle.gcl_reader.specs.Tokens.{Token, Lexed}
 use Rattle.gcl_reader.specs.declared.word.Head.{Head}
-use Rattle.gcl_reader.specs.declared.word.Place.{Place}
+use Rattle.gcl_reader.specs.declared.word.Parameter.{Parameter}
 use Rattle.gcl_reader.specs.declared.refusal.Kind.TheVariants as kind
 use Rattle.gcl_reader.specs.declared.refusal.Refusal.{Refusal}
 use Rattle.gcl_reader.specs.declared.refusal.GclFault.{GclFault}
@@ -24,20 +24,20 @@ args-regroup : (front : List Arg) (a : Arg) (read : Result (List Arg × Lexed) R
 args-regroup front a (Ok x) = ap (λ (xs : List Arg). Ok (xs, x.1)) (simp append_assoc)
 args-regroup front a (Err f) = refl
 
-args-cons : (front : List Arg) (place : Place) (places : List Place) (x : Lexed) (a : Arg) (after : Lexed) → arg_at place x ≡ Ok (a, after) →
+args-cons : (front : List Arg) (place : Parameter) (places : List Parameter) (x : Lexed) (a : Arg) (after : Lexed) → arg_at place x ≡ Ok (a, after) →
     args_behind front (args_at (place ∷ places) x) ≡ args_behind (front ++ a ∷ []) (args_at places after)
 unfolding args_at
 args-cons front place places x a after h = rw h (args-regroup front a (args_at places after))
 
 -- One more place is filled.
-pub args-more : (front : List Arg) (d : Place) (places : List Place) (x : Lexed) (a : Arg) (after : Lexed) →
+pub args-more : (front : List Arg) (d : Parameter) (places : List Parameter) (x : Lexed) (a : Arg) (after : Lexed) →
     1 ≤ length places → arg_at (get_or places 0 d) x ≡ Ok (a, after) →
     args_behind (front ++ a ∷ []) (args_at (take (length places - 1) (drop 1 places)) after) ≡ args_behind front (args_at places x)
 args-more front d [] x a after h r = absurd (omega (arith, h))
 args-more front d (p ∷ places) x a after h r = rw (rest-is p places) (sym (args-cons front p places x a after r))
 
 -- A place refuses.
-pub args-fail : (e : GclFault) (front : List Arg) (d : Place) (places : List Place) (x : Lexed) (total : Result (List Arg × Lexed) Refusal) →
+pub args-fail : (e : GclFault) (front : List Arg) (d : Parameter) (places : List Parameter) (x : Lexed) (total : Result (List Arg × Lexed) Refusal) →
     1 ≤ length places → Fails e (arg_at (get_or places 0 d) x) → args_behind front (args_at places x) ≡ total → Fails e total
 unfolding args_at
 args-fail e front d [] x total h r so_far = absurd (omega (arith, h))
@@ -46,7 +46,7 @@ args-fail (fault.Refused f) front d (q ∷ places) x total h r so_far =
     let one : args_behind front (args_at (q ∷ places) x) ≡ Err f = rw r refl in
     sym so_far ∙ one
 
-pub args-done : (front : List Arg) (places : List Place) (x : Lexed) (total : Result (List Arg × Lexed) Refusal) →
+pub args-done : (front : List Arg) (places : List Parameter) (x : Lexed) (total : Result (List Arg × Lexed) Refusal) →
     length places < 1 → args_behind front (args_at places x) ≡ total → total ≡ Ok (front, x)
 unfolding args_at
 args-done front [] x total h so_far = sym so_far ∙ ap (λ (xs : List Arg). Ok (xs, x)) (append-nil front)

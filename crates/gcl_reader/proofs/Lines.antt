@@ -1,17 +1,20 @@
 -- The tokens of a line that is shown.
-use Rattle.std.proofs.Common.{◌≡◌, ℕ, ◌+◌, ◌/◌, ◌%◌, ◌^◌, ◌≤◌, ◌<◌, zero, suc, List, [], ◌∷◌, ◌++◌, length, take, drop, Bool, true, false, ◌==◌, ◌&&◌, refl, ap, ◌∙◌, arith, ℤ, pos, negsuc, append_assoc, codes, decimal, nat_le}
+use Rattle.std.proofs.Common.{◌≡◌, ℕ, ◌+◌, ◌/◌, ◌%◌, ◌^◌, ◌≤◌, ◌<◌, zero, suc, List, [], ◌∷◌, ◌++◌, length, take, drop, Bool, true, false, ◌==◌, ◌&&◌, refl, ap, ◌∙◌, arith, ℤ, pos, negsuc, append_assoc, codes, decimal, nat_le, nat_lt}
 use Rattle.std.specs.Prelude.{unsigned_abs, flat_map}
 use Rattle.std.specs.List.{AllZip, list_all, take_while}
 use Rattle.std.proofs.lemmas.Grind.{common_steps}
 use Rattle.std.proofs.lemmas.Nat.{div_below}
+use Rattle.std.proofs.lemmas.Bool.{and_parts}
 use Rattle.std.proofs.lemmas.Bool.Decides.{nat_tests}
 use Rattle.fixed_point.specs.Decimal.{is_digit}
 use Rattle.fixed_point.specs.Text.{number_text, size_text, decimals_text, point_text}
+use Rattle.fixed_point.specs.declared.limits.TheConstants.{MOST_DECIMALS, MOST_MILLIONTHS}
 use Rattle.fixed_point.proofs.Again.{again, whole-written, power, positive}
 use Rattle.gcl_reader.specs.Tokens.{Token, Lexed, Between, tokens_from, is_word, is_blank, is_brace}
 use Rattle.gcl_reader.specs.Name.{is_name, is_name_byte, is_letter}
+use Rattle.gcl_reader.specs.declared.limits.TheConstants.{LONGEST_NAME}
 use Rattle.gcl_reader.specs.Table.{text_of, statement_text}
-use Rattle.gcl_reader.specs.Fitting.{IsWord, FitsPlace}
+use Rattle.gcl_reader.specs.Fitting.{IsWord, IsSize, FitsParameter}
 use Rattle.gcl_reader.specs.Spelling.{SaysValue}
 use Rattle.gcl_reader.specs.Show.{value_text, arg_text}
 use Rattle.gcl_reader.specs.declared.word.Word.{Word}
@@ -19,8 +22,8 @@ use Rattle.gcl_reader.specs.declared.word.Word.TheVariants as word
 use Rattle.gcl_reader.specs.declared.word.Side.TheVariants as side
 use Rattle.gcl_reader.specs.declared.word.Statement.{Statement}
 use Rattle.gcl_reader.specs.declared.word.Statement.TheVariants as statement
-use Rattle.gcl_reader.specs.declared.word.Place.{Place}
-use Rattle.gcl_reader.specs.declared.word.Place.TheVariants as place
+use Rattle.gcl_reader.specs.declared.word.Parameter.{Parameter}
+use Rattle.gcl_reader.specs.declared.word.Parameter.TheVariants as parameter
 use Rattle.gcl_reader.specs.declared.file.What.{What}
 use Rattle.gcl_reader.specs.declared.file.What.TheVariants as what
 use Rattle.gcl_reader.specs.declared.file.Arg.{Arg}
@@ -42,10 +45,6 @@ blank-word : (b : ℕ) → is_blank b ≡ true → is_word b ≡ false
 unfolding is_blank is_word
 blank-word b e = grind (arith, nat_tests)
 
-both : (a b : Bool) → (a && b) ≡ true → (a ≡ true) × (b ≡ true)
-both true b h = (refl, h)
-both false b h = cc
-
 abbrev word_len : List ℕ → ℕ
 word_len bytes = length (take_while is_word bytes)
 
@@ -53,7 +52,7 @@ run-len : (text after : List ℕ) → list_all is_word text ≡ true → IsCut a
 run-len [] [] all cut = absurd cut
 run-len [] (b ∷ bs) all cut = word_len-stop b bs (blank-word b cut)
 run-len (b ∷ bs) after all cut =
-    let p = both (is_word b) (list_all is_word bs) all in
+    let p = and_parts (is_word b) (list_all is_word bs) all in
     word_len-cons b (bs ++ after) p.0 ∙ ap (λ n. 1 + n) (run-len bs after p.1 cut) ∙ omega arith
 
 front-is : (text after : List ℕ) → take (length text) (text ++ after) ≡ text
@@ -66,7 +65,7 @@ back-is text after = grind (arith, common_steps)
 pub word-off : (b : ℕ) (bs : List ℕ) → list_all is_word (b ∷ bs) ≡ true → CutsOff (b ∷ bs)
 word-off b bs all line at after cut =
     let text : List ℕ = b ∷ bs in
-    let p = both (is_word b) (list_all is_word bs) all in
+    let p = and_parts (is_word b) (list_all is_word bs) all in
     let e = word-cut line line at (text ++ after) (omega arith) p.0 in
     let n = run-len text after all cut in
     ap (λ (l : Lexed). l.tokens) e ∙ rw (n, front-is text after, back-is text after) refl
@@ -129,18 +128,18 @@ digit-word b h = grind (arith, nat_tests)
 
 all-as : (p q : ℕ → Bool) → ((b : ℕ) → p b ≡ true → q b ≡ true) → (bs : List ℕ) → list_all p bs ≡ true → list_all q bs ≡ true
 all-as p q f [] h = refl
-all-as p q f (b ∷ bs) h = let parts = both (p b) (list_all p bs) h in rw (f b parts.0, all-as p q f bs parts.1) refl
+all-as p q f (b ∷ bs) h = let parts = and_parts (p b) (list_all p bs) h in rw (f b parts.0, all-as p q f bs parts.1) refl
 
 all-joined : (p : ℕ → Bool) (bs cs : List ℕ) → list_all p bs ≡ true → list_all p cs ≡ true → list_all p (bs ++ cs) ≡ true
 all-joined p [] cs h k = k
-all-joined p (b ∷ bs) cs h k = let parts = both (p b) (list_all p bs) h in rw (parts.0, all-joined p bs cs parts.1 k) refl
+all-joined p (b ∷ bs) cs h k = let parts = and_parts (p b) (list_all p bs) h in rw (parts.0, all-joined p bs cs parts.1 k) refl
 
 name-bytes : (text : List ℕ) → is_name text ≡ true → list_all is_word text ≡ true
 unfolding is_name
 name-bytes [] h = refl
 name-bytes (b ∷ bs) h =
-    let outer = both (is_letter b && nat_le (length bs) 31) (list_all is_name_byte bs) h in
-    let inner = both (is_letter b) (nat_le (length bs) 31) outer.0 in
+    let outer = and_parts (is_letter b && nat_lt (length bs) LONGEST_NAME) (list_all is_name_byte bs) h in
+    let inner = and_parts (is_letter b) (nat_lt (length bs) LONGEST_NAME) outer.0 in
     rw (letter-word b inner.0, all-as is_name_byte is_word name-byte-word bs outer.1) refl
 
 decimal-byte : (d : ℕ) → d < 10 → is_word (48 + d) ≡ true
@@ -170,32 +169,32 @@ unfolding is_word is_brace
 point-bytes [] h = refl
 point-bytes (b ∷ bs) h = h
 
-size-bytes : (n : ℕ) → n ≤ 10 ^ 12 → list_all is_word (size_text 6 n) ≡ true
+size-bytes : (n : ℕ) → n ≤ MOST_MILLIONTHS → list_all is_word (size_text MOST_DECIMALS n) ≡ true
 unfolding size_text
 size-bytes n h =
-    let whole = whole-written (n / 10 ^ 6) (omega arith) in
-    all-joined is_word (decimal (n / 10 ^ 6)) (point_text (decimals_text 6 (n % 10 ^ 6)))
-    (all-as is_digit is_word digit-word (decimal (n / 10 ^ 6)) whole.0)
-    (point-bytes (decimals_text 6 (n % 10 ^ 6)) (decimals-bytes 6 (n % 10 ^ 6) (omega arith)))
+    let whole = whole-written (n / 10 ^ MOST_DECIMALS) (omega arith) in
+    all-joined is_word (decimal (n / 10 ^ MOST_DECIMALS)) (point_text (decimals_text MOST_DECIMALS (n % 10 ^ MOST_DECIMALS)))
+    (all-as is_digit is_word digit-word (decimal (n / 10 ^ MOST_DECIMALS)) whole.0)
+    (point-bytes (decimals_text MOST_DECIMALS (n % 10 ^ MOST_DECIMALS)) (decimals-bytes MOST_DECIMALS (n % 10 ^ MOST_DECIMALS) (omega arith)))
 
 minus-bytes : (bs : List ℕ) → list_all is_word bs ≡ true → list_all is_word (45 ∷ bs) ≡ true
 unfolding is_word is_brace
 minus-bytes bs h = h
 
-number-bytes : (n : ℤ) → unsigned_abs n ≤ 10 ^ 12 → list_all is_word (number_text 6 n) ≡ true
+number-bytes : (n : ℤ) → IsSize n → list_all is_word (number_text MOST_DECIMALS n) ≡ true
 unfolding number_text
 number-bytes (pos n) h = size-bytes n (omega (arith, h))
-number-bytes (negsuc n) h = minus-bytes (size_text 6 (suc n)) (size-bytes (suc n) (omega (arith, h)))
+number-bytes (negsuc n) h = minus-bytes (size_text MOST_DECIMALS (suc n)) (size-bytes (suc n) (omega (arith, h)))
 
-value-said : (p : Place) (w : What) → FitsPlace p w → SaysValue (value_text w) w
-value-said (place.Number r) (what.Number n) fits = again n fits.0
-value-said (place.Number r) (what.Name name) fits = absurd fits
+value-said : (p : Parameter) (w : What) → FitsParameter p w → SaysValue (value_text w) w
+value-said (parameter.Number r) (what.Number n) fits = again n fits.0
+value-said (parameter.Number r) (what.Name name) fits = absurd fits
 value-said p (what.Number n) fits = absurd fits
 value-said p (what.Name name) fits = refl
 
-value-off : (p : Place) (w : What) → FitsPlace p w → CutsOff (value_text w)
-value-off (place.Number r) (what.Number n) fits = off-if (number_text 6 n) (number-is-text (number_text 6 n) n (again n fits.0)) (number-bytes n fits.0)
-value-off (place.Number r) (what.Name name) fits = absurd fits
+value-off : (p : Parameter) (w : What) → FitsParameter p w → CutsOff (value_text w)
+value-off (parameter.Number r) (what.Number n) fits = off-if (number_text MOST_DECIMALS n) (number-is-text (number_text MOST_DECIMALS n) n (again n fits.0)) (number-bytes n fits.0)
+value-off (parameter.Number r) (what.Name name) fits = absurd fits
 value-off p (what.Number n) fits = absurd fits
 value-off p (what.Name name) fits = off-if name (name-is-text name fits) (name-bytes name fits)
 
@@ -213,7 +212,7 @@ unfolding is_blank
 args-cut [] after cut = cut
 args-cut (a ∷ args) after cut = refl
 
-pub args-ahead : (ps : List Place) (args : List Arg) (line at : ℕ) (after : List ℕ) → AllZip FitsArg ps args → IsCut after → ArgsAhead line at args after
+pub args-ahead : (ps : List Parameter) (args : List Arg) (line at : ℕ) (after : List ℕ) → AllZip FitsArg ps args → IsCut after → ArgsAhead line at args after
 args-ahead [] [] line at after fits cut = ([], at, refl, tt)
 args-ahead [] (a ∷ args) line at after fits cut = absurd fits
 args-ahead (p ∷ ps) [] line at after fits cut = absurd fits

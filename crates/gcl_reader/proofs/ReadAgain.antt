@@ -7,9 +7,9 @@ use Rattle.std.proofs.lemmas.Slice.Eq.{bytes_eq-Decides}
 use Rattle.fixed_point.specs.Decimal.{fix_of}
 use Rattle.gcl_reader.specs.Tokens.{Token, Lexed, put}
 use Rattle.gcl_reader.specs.Name.{is_name}
-use Rattle.gcl_reader.specs.Table.{statement_text, text_of, head_of, statement_of, places_of, points_of}
+use Rattle.gcl_reader.specs.Table.{statement_text, text_of, head_of, statement_of, parameters_of, points_of}
 use Rattle.gcl_reader.specs.Grammar.{token_at, arg_with, number_in, arg_of, arg_at, args_at, brace_at, statement_at, word_at, close_at, command_at, first_at, commands_at}
-use Rattle.gcl_reader.specs.Fitting.{IsWord, FitsPlace, FitsTable}
+use Rattle.gcl_reader.specs.Fitting.{IsWord, FitsParameter, FitsTable}
 use Rattle.gcl_reader.specs.Spelling.{SaysValue, StandsAt, Says, statement_in, SpellsRest, Spells}
 use Rattle.gcl_reader.specs.declared.word.Word.{Word}
 use Rattle.gcl_reader.specs.declared.word.Word.TheVariants as word
@@ -18,8 +18,8 @@ use Rattle.gcl_reader.specs.declared.word.Statement.{Statement}
 use Rattle.gcl_reader.specs.declared.word.Statement.TheVariants as statement
 use Rattle.gcl_reader.specs.declared.word.Head.{Head}
 use Rattle.gcl_reader.specs.declared.word.Head.TheVariants as head
-use Rattle.gcl_reader.specs.declared.word.Place.{Place}
-use Rattle.gcl_reader.specs.declared.word.Place.TheVariants as place
+use Rattle.gcl_reader.specs.declared.word.Parameter.{Parameter}
+use Rattle.gcl_reader.specs.declared.word.Parameter.TheVariants as parameter
 use Rattle.gcl_reader.specs.declared.file.What.TheVariants as what
 use Rattle.gcl_reader.specs.declared.file.Arg.{Arg}
 use Rattle.gcl_reader.specs.declared.file.Command.{Command}
@@ -49,28 +49,28 @@ token-read t y e = rw e refl
 arg-is : (l a n : ℕ) (w : What) (t : Token) → StandsAt t l a n → ◌≡◌ {A = Arg} (arg_with w t) (record { line = l; at = a; len = n; what = w })
 arg-is l a n w t s = rw (s.0, s.1, s.2) refl
 
-value-read : (p : Place) (t : Token) (l a n : ℕ) (w : What) → SaysValue t.text w → StandsAt t l a n → FitsPlace p w →
+value-read : (p : Parameter) (t : Token) (l a n : ℕ) (w : What) → SaysValue t.text w → StandsAt t l a n → FitsParameter p w →
     arg_of p t ≡ Ok (record { line = l; at = a; len = n; what = w })
-value-read (place.Number r) t l a n (what.Number z) says stands fits = ap (number_in r t) says ∙ rw fits.1 (ap (λ (q : Arg). Ok q) (arg-is l a n (what.Number z) t stands))
-value-read (place.Number r) t l a n (what.Name name) says stands fits = absurd fits
+value-read (parameter.Number r) t l a n (what.Number z) says stands fits = ap (number_in r t) says ∙ rw fits.1 (ap (λ (q : Arg). Ok q) (arg-is l a n (what.Number z) t stands))
+value-read (parameter.Number r) t l a n (what.Name name) says stands fits = absurd fits
 value-read p t l a n (what.Number z) says stands fits = absurd fits
 value-read p t l a n (what.Name name) says stands fits =
     let named : is_name t.text ≡ true = ap is_name (sym says) ∙ fits in
     rw named (ap (λ (q : Arg). Ok q) (ap (λ (m : List ℕ). arg_with (what.Name m) t) (sym says) ∙ arg-is l a n (what.Name name) t stands))
 
-value-is-text : (p : Place) (t : Token) (w : What) → SaysValue t.text w → FitsPlace p w → IsText t
+value-is-text : (p : Parameter) (t : Token) (w : What) → SaysValue t.text w → FitsParameter p w → IsText t
 value-is-text p t (what.Number z) says fits = number-is-text t.text z says
-value-is-text (place.Number r) t (what.Name name) says fits = absurd fits
+value-is-text (parameter.Number r) t (what.Name name) says fits = absurd fits
 value-is-text p t (what.Name name) says fits = name-is-text t.text (ap is_name (sym says) ∙ fits)
 
-arg-read : (p : Place) (t : Token) (a : Arg) (y : Lexed) → Says t a → FitsArg p a → arg_at p (put t y) ≡ Ok (a, y)
+arg-read : (p : Parameter) (t : Token) (a : Arg) (y : Lexed) → Says t a → FitsArg p a → arg_at p (put t y) ≡ Ok (a, y)
 unfolding arg_at
 arg-read p t a y says fits =
     let token = token-read t y (value-is-text p t a.what says.0 fits) in
     let value = value-read p t a.line a.at a.len a.what says.0 says.1 fits in
     rw (token, value) refl
 
-args-read : (ps : List Place) (ts : List Token) (args : List Arg) (y : Lexed) → AllZip Says ts args → AllZip FitsArg ps args → args_at ps (puts ts y) ≡ Ok (args, y)
+args-read : (ps : List Parameter) (ts : List Token) (args : List Arg) (y : Lexed) → AllZip Says ts args → AllZip FitsArg ps args → args_at ps (puts ts y) ≡ Ok (args, y)
 unfolding args_at
 args-read [] [] [] y says fits = refl
 args-read [] (t ∷ ts) [] y says fits = absurd says
@@ -82,7 +82,7 @@ args-read (p ∷ ps) (t ∷ ts) (a ∷ args) y says fits =
     let more = args-read ps ts args y says.1 fits.1 in
     rw (one, more) refl
 
-brace-read : (b : ℕ) (t : Token) (y : Lexed) → t.text ≡ b ∷ [] → brace_at b (put t y) ≡ Ok y
+brace-read : (b : ℕ) (t : Token) (y : Lexed) → t.text ≡ b ∷ [] → brace_at (b ∷ []) (put t y) ≡ Ok y
 unfolding brace_at
 brace-read b t y e =
     let token = token-read t y (some-text t b [] e) in
@@ -108,10 +108,10 @@ abbrev IsRead : Token → Lexed → Command → Lexed → Type 0
 IsRead t x c y = (h : Head) × (head_of t.text ≡ Some h) × (command_at t h x ≡ Ok (c, y))
 
 alone-read : (t : Token) (w : Word) (l a n : ℕ) (rest : List Token) (args : List Arg) (y : Lexed) → t.text ≡ text_of w → StandsAt t l a n → statement_in w ≡ None → IsWord w →
-    AllZip Says rest args → AllZip FitsArg (places_of w) args → IsRead t (puts rest y) (record { word = w; line = l; at = a; len = n; args = args }) y
+    AllZip Says rest args → AllZip FitsArg (parameters_of w) args → IsRead t (puts rest y) (record { word = w; line = l; at = a; len = n; args = args }) y
 unfolding command_at word_at close_at
 alone-read t w l a n rest args y text stands none is says fits =
-    let args_read = args-read (places_of w) rest args y says fits in
+    let args_read = args-read (parameters_of w) rest args y says fits in
     (head.Word w, ap head_of text ∙ word-found w is none, rw args_read (ap (λ (c : Command). Ok (c, y)) (command-is w l a n args t stands)))
 
 braces-read : (t o m z : Token) (s : Statement) (l a n : ℕ) (inner : List Token) (args : List Arg) (y : Lexed) → t.text ≡ codes "prove" → StandsAt t l a n →
@@ -129,7 +129,7 @@ braces-read t o m z s l a n inner args y text stands open_text name_text close_t
 
 -- One command, by the statement that its word asks for.
 by-statement : (f : Option Statement) (t : Token) (w : Word) (l a n : ℕ) (rest : List Token) (args : List Arg) (y : Lexed) → statement_in w ≡ f → t.text ≡ text_of w → StandsAt t l a n → IsWord w →
-    SpellsRest f rest args → AllZip FitsArg (places_of w) args → IsRead t (puts rest y) (record { word = w; line = l; at = a; len = n; args = args }) y
+    SpellsRest f rest args → AllZip FitsArg (parameters_of w) args → IsRead t (puts rest y) (record { word = w; line = l; at = a; len = n; args = args }) y
 by-statement None t w l a n rest args y e text stands is spells fits = alone-read t w l a n rest args y text stands e is spells fits
 by-statement (Some s) t (word.Prove r) l a n rest args y e text stands is spells fits =
     let same : r ≡ s = cc in

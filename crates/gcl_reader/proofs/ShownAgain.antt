@@ -2,8 +2,9 @@
 use Rattle.std.proofs.Common.{◌≡◌, ℕ, ◌+◌, suc, List, [], ◌∷◌, ◌++◌, length, map, Option, Some, None, refl, sym, ap, subst, ◌∙◌, append_assoc, codes}
 use Rattle.std.specs.Prelude.{flat_map}
 use Rattle.std.specs.List.{AllZip, AllByRecursion}
+use Rattle.gcl_reader.specs.declared.limits.TheConstants.{MOST_COMMANDS}
 use Rattle.gcl_reader.specs.Tokens.{Token, Between, tokens_from, lexed, is_blank}
-use Rattle.gcl_reader.specs.Table.{text_of, statement_text, places_of, points_of}
+use Rattle.gcl_reader.specs.Table.{text_of, statement_text, parameters_of, points_of}
 use Rattle.gcl_reader.specs.Grammar.{arg_with}
 use Rattle.gcl_reader.specs.Fitting.{IsWord, FitsTable}
 use Rattle.gcl_reader.specs.Spelling.{Says, statement_in, SpellsRest, SpellsCommand, Spells}
@@ -11,7 +12,7 @@ use Rattle.gcl_reader.specs.Show.{arg_text, rest_text, show_text, values_of, Sam
 use Rattle.gcl_reader.specs.declared.word.Word.{Word}
 use Rattle.gcl_reader.specs.declared.word.Word.TheVariants as word
 use Rattle.gcl_reader.specs.declared.word.Statement.{Statement}
-use Rattle.gcl_reader.specs.declared.word.Place.{Place}
+use Rattle.gcl_reader.specs.declared.word.Parameter.{Parameter}
 use Rattle.gcl_reader.specs.declared.file.What.{What}
 use Rattle.gcl_reader.specs.declared.file.Arg.{Arg}
 use Rattle.gcl_reader.specs.declared.file.Command.{Command}
@@ -28,10 +29,10 @@ args_on (t ∷ ts) (a ∷ args) = arg_with a.what t ∷ args_on ts args
 values : List Arg → List What
 values args = map (λ (a : Arg). a.what) args
 
-abbrev SameArgs : List Place → List Token → List Arg → List Arg → Type 0
+abbrev SameArgs : List Parameter → List Token → List Arg → List Arg → Type 0
 SameArgs ps ts args others = AllZip Says ts others × AllZip FitsArg ps others × (map (λ (a : Arg). a.what) others ≡ map (λ (a : Arg). a.what) args)
 
-args-same : (line : ℕ) (ps : List Place) (ts : List Token) (args : List Arg) → AllZip (SaysOn line) ts args → AllZip FitsArg ps args → SameArgs ps ts args (args_on ts args)
+args-same : (line : ℕ) (ps : List Parameter) (ts : List Token) (args : List Arg) → AllZip (SaysOn line) ts args → AllZip FitsArg ps args → SameArgs ps ts args (args_on ts args)
 args-same line [] [] [] says fits = (tt, tt, refl)
 args-same line ps (t ∷ ts) [] says fits = absurd says
 args-same line ps [] (a ∷ args) says fits = absurd says
@@ -75,12 +76,12 @@ behind t e = ap (λ (l : List Token). t ∷ l) e
 first-token : ℕ → ℕ → Word → Token
 first-token line at w = record { line = line; at = at; text = text_of w }
 
-alone-ahead : (line at : ℕ) (w : Word) (args : List Arg) (more : List ℕ) → statement_in w ≡ None → IsWord w → AllZip FitsArg (places_of w) args → LineAhead line at w args more
+alone-ahead : (line at : ℕ) (w : Word) (args : List Arg) (more : List ℕ) → statement_in w ≡ None → IsWord w → AllZip FitsArg (parameters_of w) args → LineAhead line at w args more
 alone-ahead line at w args more none is fits =
     let t : Token = record { line = line; at = at; text = text_of w } in
     let start : ℕ = at + length (text_of w) in
-    let a = args-ahead (places_of w) args line start (10 ∷ more) fits (line-feed-cuts more) in
-    let same = args-same line (places_of w) a.0 args a.3 fits in
+    let a = args-ahead (parameters_of w) args line start (10 ∷ more) fits (line-feed-cuts more) in
+    let same = args-same line (parameters_of w) a.0 args a.3 fits in
     let d : Command = record { word = w; line = line; at = at; len = length (text_of w); args = args_on a.0 args } in
     let whole = ap (tokens_from Between line at) (line-regroup (text_of w) (rest_text (statement_in w) args) more) in
     let word = text-off w is line at (rest_text (statement_in w) args ++ (10 ∷ more)) (rest-cut (statement_in w) args more) in
@@ -130,7 +131,7 @@ braces-ahead line at s args more fits =
       refl,
     )
 
-line-ahead : (f : Option Statement) (line at : ℕ) (w : Word) (args : List Arg) (more : List ℕ) → statement_in w ≡ f → IsWord w → AllZip FitsArg (places_of w) args → LineAhead line at w args more
+line-ahead : (f : Option Statement) (line at : ℕ) (w : Word) (args : List Arg) (more : List ℕ) → statement_in w ≡ f → IsWord w → AllZip FitsArg (parameters_of w) args → LineAhead line at w args more
 line-ahead None line at w args more e is fits = alone-ahead line at w args more e is fits
 line-ahead (Some s) line at (word.Prove r) args more e is fits = braces-ahead line at r args more fits
 line-ahead (Some s) line at w args more e is fits = cc
@@ -153,4 +154,4 @@ lines-ahead (c ∷ cs) line at fits =
 pub shown-is-read : ShownIsRead
 shown-is-read commands fits =
     let lines = lines-ahead commands 1 0 fits.1 in
-    (lines.0, commands-read 20000 (lexed (show_text commands)) lines.0 lines.1 (rw lines.4 fits.0) lines.3, lines.2)
+    (lines.0, commands-read MOST_COMMANDS (lexed (show_text commands)) lines.0 lines.1 (rw lines.4 fits.0) lines.3, lines.2)

@@ -2,6 +2,7 @@
 use Rattle.std.proofs.Common.{◌≡◌, ℕ, List, [], ◌∷◌, Some, None, Bool, true, false, cond, ◌&&◌, refl, sym, ap, ◌∙◌, codes}
 use Rattle.std.specs.Str.{bytes_eq}
 use Rattle.std.specs.List.{list_all}
+use Rattle.std.proofs.lemmas.Bool.{and_parts}
 use Rattle.std.proofs.lemmas.Slice.Eq.{bytes_eq-Decides}
 use Rattle.gcl_reader.specs.Table.{named, heads, head_text, statements, statement_text, text_of, head_of, statement_of}
 use Rattle.gcl_reader.specs.Fitting.{IsWord}
@@ -25,10 +26,6 @@ unfolding named
 named-text written [] text x h = cc
 named-text written (y ∷ ys) text x h = text-step written y ys text x (named-text written ys text x) (bytes_eq text (written y)) refl h
 
-both : (a b : Bool) → (a && b) ≡ true → (a ≡ true) × (b ≡ true)
-both true b h = (refl, h)
-both false b h = cc
-
 test-step : {X : Type 0} (written : X → List ℕ) (test : X → Bool) (y : X) (ys : List X) (text : List ℕ) (x : X) → test y ≡ true → (named written ys text ≡ Some x → test x ≡ true) →
     (b : Bool) → cond b (Some y) (named written ys text) ≡ Some x → test x ≡ true
 test-step written test y ys text x e later true h = let same : y ≡ x = cc in ap test (sym same) ∙ e
@@ -39,7 +36,7 @@ named-test : {X : Type 0} (written : X → List ℕ) (test : X → Bool) (xs : L
 unfolding named
 named-test written test [] text x all h = cc
 named-test written test (y ∷ ys) text x all h =
-    let p = both (test y) (list_all test ys) all in
+    let p = and_parts (test y) (list_all test ys) all in
     test-step written test y ys text x p.0 (named-test written test ys text x p.1) (bytes_eq text (written y)) h
 
 -- whether the word of a head is one of the language and asks for no proof

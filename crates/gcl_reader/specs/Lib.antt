@@ -1,5 +1,6 @@
 pub mod Table
 pub mod Name
+pub mod Span
 pub mod Grammar
 pub mod Tokens
 pub mod Ahead

@@ -1,6 +1,7 @@
 -- Which texts are names.
-use Rattle.std.specs.Prelude.{ℕ, List, [], ◌∷◌, length, Bool, false, if◌then◌else◌, ◌&&◌, ◌||◌, ◌==◌, nat_le, Option, Some, None}
+use Rattle.std.specs.Prelude.{ℕ, List, [], ◌∷◌, length, Bool, false, if◌then◌else◌, ◌&&◌, ◌||◌, ◌==◌, nat_le, nat_lt, Option, Some, None}
 use Rattle.std.specs.List.{list_all}
+use Rattle.gcl_reader.specs.declared.limits.TheConstants.{LONGEST_NAME}
 
 -- A to Z, a to z.
 abbrev pub is_letter : ℕ → Bool
@@ -13,7 +14,7 @@ is_name_byte b = is_letter b || (nat_le 48 b && nat_le b 57) || (b == 95) || (b 
 -- A letter, and at most 31 letters, digits, underscores and apostrophes.
 unfoldable pub is_name : List ℕ → Bool
 is_name [] = false
-is_name (b ∷ bs) = is_letter b && nat_le (length bs) 31 && list_all is_name_byte bs
+is_name (b ∷ bs) = is_letter b && nat_lt (length bs) LONGEST_NAME && list_all is_name_byte bs
 
 -- The name that a text is, if it is one.
 abbrev pub name_of : List ℕ → Option (List ℕ)

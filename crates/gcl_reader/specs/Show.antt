@@ -1,6 +1,7 @@
 -- The canonical spelling of commands, and what it is read as.
 use Rattle.std.specs.Prelude.{◌≡◌, ℕ, ◌+◌, List, [], ◌∷◌, ◌++◌, map, flat_map, Option, Some, None, Ok, codes}
 use Rattle.fixed_point.specs.Text.{number_text}
+use Rattle.fixed_point.specs.declared.limits.TheConstants.{MOST_DECIMALS}
 use Rattle.gcl_reader.specs.Table.{text_of, statement_text}
 use Rattle.gcl_reader.specs.Grammar.{file_of}
 use Rattle.gcl_reader.specs.Fitting.{IsFitting}
@@ -14,7 +15,7 @@ use Rattle.gcl_reader.specs.declared.file.Command.{Command}
 -- A name is its own text, and a number has its shortest decimal text.
 abbrev pub value_text : What → List ℕ
 value_text (what.Name name) = name
-value_text (what.Number n) = number_text 6 n
+value_text (what.Number n) = number_text MOST_DECIMALS n
 
 -- An argument stands behind a blank.
 abbrev pub arg_text : Arg → List ℕ

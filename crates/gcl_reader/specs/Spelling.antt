@@ -19,11 +19,11 @@ abbrev pub SaysValue : List ℕ → What → Type 0
 SaysValue text (what.Name name) = name ≡ text
 SaysValue text (what.Number n) = fix_of text ≡ Ok n
 
--- The token's place in the file.
+-- The token stands there.
 abbrev pub StandsAt : Token → ℕ → ℕ → ℕ → Type 0
 StandsAt t line at len = (line ≡ t.line) × (at ≡ t.at) × (len ≡ length t.text)
 
--- A token says an argument, which has the token's place.
+-- A token says an argument, which stands where the token does.
 abbrev pub Says : Token → Arg → Type 0
 Says t a = SaysValue t.text a.what × StandsAt t a.line a.at a.len
 
@@ -41,7 +41,7 @@ SpellsRest (Some s) tokens args =
     × (open_brace.text ≡ codes "{") × (name.text ≡ statement_text s) × (close_brace.text ≡ codes "}")
     × AllZip Says inner args
 
--- The tokens of one command, which has the place of its word.
+-- The tokens of one command, which stands where its word does.
 abbrev pub SpellsCommand : List Token → Command → Type 0
 SpellsCommand tokens c =
     (first : Token) × (rest : List Token) × (tokens ≡ first ∷ rest)

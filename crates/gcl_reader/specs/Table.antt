@@ -1,7 +1,9 @@
--- The command table: how each word and each statement is written, and what stands in the places behind it.
-use Rattle.std.specs.Prelude.{ℕ, List, [], ◌∷◌, ◌++◌, map, Option, Some, None, codes, Bool, true, false, if◌then◌else◌, ◌&&◌, ◌==◌, ◌%◌, ◌*◌, ◌^◌, nat_le, ℤ, pos, negsuc, int_le}
+-- The command table: how each word and each statement is written, and what stands behind it.
+use Rattle.std.specs.Prelude.{ℕ, List, [], ◌∷◌, ◌++◌, map, Option, Some, None, codes, Bool, true, false, if◌then◌else◌, ◌&&◌, ◌==◌, ◌%◌, ◌*◌, nat_le, ℤ, pos, negsuc, int_le}
 use Rattle.std.specs.Str.{bytes_eq}
 use Rattle.fixed_point.specs.Ticks.{ticks_of}
+use Rattle.fixed_point.specs.declared.limits.TheConstants.{MOST_TICKS}
+use Rattle.gcl_reader.specs.declared.limits.TheConstants.{UNIT, MOST_BYTE}
 use Rattle.gcl_reader.specs.declared.word.Side.{Side}
 use Rattle.gcl_reader.specs.declared.word.Side.TheVariants as side
 use Rattle.gcl_reader.specs.declared.word.Word.{Word}
@@ -10,8 +12,8 @@ use Rattle.gcl_reader.specs.declared.word.Statement.{Statement}
 use Rattle.gcl_reader.specs.declared.word.Statement.TheVariants as statement
 use Rattle.gcl_reader.specs.declared.word.Head.{Head}
 use Rattle.gcl_reader.specs.declared.word.Head.TheVariants as head
-use Rattle.gcl_reader.specs.declared.word.Place.{Place}
-use Rattle.gcl_reader.specs.declared.word.Place.TheVariants as place
+use Rattle.gcl_reader.specs.declared.word.Parameter.{Parameter}
+use Rattle.gcl_reader.specs.declared.word.Parameter.TheVariants as parameter
 use Rattle.gcl_reader.specs.declared.word.Range.{Range}
 use Rattle.gcl_reader.specs.declared.word.Range.TheVariants as range
 
@@ -68,45 +70,45 @@ statement_text statement.Parallel = codes "parallel"
 statement_text statement.Midpoint = codes "midpoint"
 statement_text statement.SameLength = codes "same_length"
 
--- The points of a statement.
-abbrev pub points_of : Statement → List Place
-points_of statement.Identical = place.Point ∷ place.Point ∷ []
-points_of statement.Collinear = place.Point ∷ place.Point ∷ place.Point ∷ []
-points_of statement.Perpendicular = place.Point ∷ place.Point ∷ place.Point ∷ place.Point ∷ []
-points_of statement.Parallel = place.Point ∷ place.Point ∷ place.Point ∷ place.Point ∷ []
-points_of statement.Midpoint = place.Point ∷ place.Point ∷ place.Point ∷ []
-points_of statement.SameLength = place.Point ∷ place.Point ∷ place.Point ∷ place.Point ∷ []
+-- What stands behind a statement.
+abbrev pub points_of : Statement → List Parameter
+points_of statement.Identical = parameter.Point ∷ parameter.Point ∷ []
+points_of statement.Collinear = parameter.Point ∷ parameter.Point ∷ parameter.Point ∷ []
+points_of statement.Perpendicular = parameter.Point ∷ parameter.Point ∷ parameter.Point ∷ parameter.Point ∷ []
+points_of statement.Parallel = parameter.Point ∷ parameter.Point ∷ parameter.Point ∷ parameter.Point ∷ []
+points_of statement.Midpoint = parameter.Point ∷ parameter.Point ∷ parameter.Point ∷ []
+points_of statement.SameLength = parameter.Point ∷ parameter.Point ∷ parameter.Point ∷ parameter.Point ∷ []
 
--- The places behind a word.
-abbrev pub places_of : Word → List Place
-places_of word.Dim = place.Number range.Picture ∷ place.Number range.Picture ∷ []
-places_of word.Color = place.Number range.Byte ∷ place.Number range.Byte ∷ place.Number range.Byte ∷ []
-places_of word.Prooflevel = place.Number range.Any ∷ []
-places_of word.Prooflimit = place.Number range.Any ∷ []
-places_of word.ProverTimeout = place.Number range.Any ∷ []
-places_of word.Point = place.NewPoint ∷ place.Number range.Any ∷ place.Number range.Any ∷ []
-places_of word.Line = place.NewLine ∷ place.Point ∷ place.Point ∷ []
-places_of word.Circle = place.NewCircle ∷ place.Point ∷ place.Point ∷ []
-places_of word.Intersec = place.NewPoint ∷ place.Line ∷ place.Line ∷ []
-places_of word.Intersec2 = place.NewPoint ∷ place.NewPoint ∷ place.Curve ∷ place.OtherCurve ∷ []
-places_of word.Midpoint = place.NewPoint ∷ place.Point ∷ place.Point ∷ []
-places_of word.Med = place.NewLine ∷ place.Point ∷ place.Point ∷ []
-places_of word.Perp = place.NewLine ∷ place.Point ∷ place.Line ∷ []
-places_of word.Parallel = place.NewLine ∷ place.Point ∷ place.Line ∷ []
-places_of word.Foot = place.NewPoint ∷ place.Point ∷ place.Line ∷ []
-places_of word.Online = place.NewPoint ∷ place.Point ∷ place.Point ∷ []
-places_of word.Oncircle = place.NewPoint ∷ place.Point ∷ place.Point ∷ []
-places_of word.Translate = place.NewPoint ∷ place.Point ∷ place.Point ∷ place.Point ∷ []
-places_of word.Towards = place.NewPoint ∷ place.Point ∷ place.Point ∷ place.Number range.Any ∷ []
-places_of word.Drawpoint = place.Point ∷ []
-places_of word.Drawsegment = place.Point ∷ place.Point ∷ []
-places_of word.Drawdashsegment = place.Point ∷ place.Point ∷ []
-places_of word.Drawline = place.Line ∷ []
-places_of word.Drawcircle = place.Circle ∷ []
-places_of word.Cmark = place.Point ∷ []
-places_of (word.CmarkAt s) = place.Point ∷ []
-places_of (word.Mark s) = place.Point ∷ []
-places_of (word.Prove s) = points_of s
+-- The parameters of a word.
+abbrev pub parameters_of : Word → List Parameter
+parameters_of word.Dim = parameter.Number range.Picture ∷ parameter.Number range.Picture ∷ []
+parameters_of word.Color = parameter.Number range.Byte ∷ parameter.Number range.Byte ∷ parameter.Number range.Byte ∷ []
+parameters_of word.Prooflevel = parameter.Number range.Any ∷ []
+parameters_of word.Prooflimit = parameter.Number range.Any ∷ []
+parameters_of word.ProverTimeout = parameter.Number range.Any ∷ []
+parameters_of word.Point = parameter.NewPoint ∷ parameter.Number range.Any ∷ parameter.Number range.Any ∷ []
+parameters_of word.Line = parameter.NewLine ∷ parameter.Point ∷ parameter.Point ∷ []
+parameters_of word.Circle = parameter.NewCircle ∷ parameter.Point ∷ parameter.Point ∷ []
+parameters_of word.Intersec = parameter.NewPoint ∷ parameter.Line ∷ parameter.Line ∷ []
+parameters_of word.Intersec2 = parameter.NewPoint ∷ parameter.NewPoint ∷ parameter.Curve ∷ parameter.OtherCurve ∷ []
+parameters_of word.Midpoint = parameter.NewPoint ∷ parameter.Point ∷ parameter.Point ∷ []
+parameters_of word.Med = parameter.NewLine ∷ parameter.Point ∷ parameter.Point ∷ []
+parameters_of word.Perp = parameter.NewLine ∷ parameter.Point ∷ parameter.Line ∷ []
+parameters_of word.Parallel = parameter.NewLine ∷ parameter.Point ∷ parameter.Line ∷ []
+parameters_of word.Foot = parameter.NewPoint ∷ parameter.Point ∷ parameter.Line ∷ []
+parameters_of word.Online = parameter.NewPoint ∷ parameter.Point ∷ parameter.Point ∷ []
+parameters_of word.Oncircle = parameter.NewPoint ∷ parameter.Point ∷ parameter.Point ∷ []
+parameters_of word.Translate = parameter.NewPoint ∷ parameter.Point ∷ parameter.Point ∷ parameter.Point ∷ []
+parameters_of word.Towards = parameter.NewPoint ∷ parameter.Point ∷ parameter.Point ∷ parameter.Number range.Any ∷ []
+parameters_of word.Drawpoint = parameter.Point ∷ []
+parameters_of word.Drawsegment = parameter.Point ∷ parameter.Point ∷ []
+parameters_of word.Drawdashsegment = parameter.Point ∷ parameter.Point ∷ []
+parameters_of word.Drawline = parameter.Line ∷ []
+parameters_of word.Drawcircle = parameter.Circle ∷ []
+parameters_of word.Cmark = parameter.Point ∷ []
+parameters_of (word.CmarkAt s) = parameter.Point ∷ []
+parameters_of (word.Mark s) = parameter.Point ∷ []
+parameters_of (word.Prove s) = points_of s
 
 -- The eight sides.
 abbrev pub sides : List Side
@@ -148,9 +150,10 @@ head_of text = named head_text heads text
 unfoldable pub statement_of : List ℕ → Option Statement
 statement_of text = named statement_text statements text
 
--- Whether a range has a number of so many millionths: a whole byte, or a size that is 1 to 10^8 ticks when it is rounded to ticks.
+-- Whether a range has a number of so many millionths: a whole byte, or the extent of a picture,
+-- which is at least one tick when it is rounded to ticks.
 abbrev pub in_range : Range → ℤ → Bool
 in_range range.Any n = true
-in_range range.Byte (pos n) = nat_le n (255 * 10 ^ 6) && (n % 10 ^ 6 == 0)
+in_range range.Byte (pos n) = nat_le n (MOST_BYTE * UNIT) && (n % UNIT == 0)
 in_range range.Byte (negsuc n) = false
-in_range range.Picture n = int_le (pos 1) (ticks_of n) && int_le (ticks_of n) (pos (10 ^ 8))
+in_range range.Picture n = int_le (pos 1) (ticks_of n) && int_le (ticks_of n) (pos MOST_TICKS)

@@ -1,24 +1,53 @@
--- The tokens of a file, with their places.
+-- The tokens of a file, and where they stand.
 use Rattle.std.specs.Prelude.{ℕ, ◌+◌, List, [], ◌∷◌, length, Bool, false, if◌then◌else◌, ◌&&◌, ◌||◌, not, ◌==◌, nat_le, IsTrue}
 use Rattle.std.specs.List.{take_while}
 
--- A token with its place. A byte that is no text is a token without text.
+-- A token, and where it stands. A byte that is no text is a token without text.
 pub record Token : Type 0 where
   pub line : ℕ
   pub at : ℕ
   pub text : List ℕ
 
+-- The bytes that have a meaning of their own.
+abbrev pub tab : ℕ
+tab = 9
+
+abbrev pub line_feed : ℕ
+line_feed = 10
+
+abbrev pub carriage_return : ℕ
+carriage_return = 13
+
+abbrev pub space : ℕ
+space = 32
+
+abbrev pub percent : ℕ
+percent = 37
+
+abbrev pub open_brace : ℕ
+open_brace = 123
+
+abbrev pub close_brace : ℕ
+close_brace = 125
+
+-- The first and the last of the visible ASCII characters: the exclamation mark and the tilde.
+abbrev pub first_visible : ℕ
+first_visible = 33
+
+abbrev pub last_visible : ℕ
+last_visible = 126
+
 -- Space, tab, carriage return and line feed part tokens.
 unfoldable pub is_blank : ℕ → Bool
-is_blank b = (b == 32) || (b == 9) || (b == 13) || (b == 10)
+is_blank b = (b == space) || (b == tab) || (b == carriage_return) || (b == line_feed)
 
 -- A brace is a token of its own.
 unfoldable pub is_brace : ℕ → Bool
-is_brace b = (b == 123) || (b == 125)
+is_brace b = (b == open_brace) || (b == close_brace)
 
 -- Every other token is a run of these: visible ASCII characters other than a percent sign and braces.
 unfoldable pub is_word : ℕ → Bool
-is_word b = nat_le 33 b && nat_le b 126 && not (b == 37) && not (is_brace b)
+is_word b = nat_le first_visible b && nat_le b last_visible && not (b == percent) && not (is_brace b)
 
 -- Where a byte stands: between tokens, right behind a byte of such a run, or in a comment.
 pub data Mode : Type 0 where
@@ -28,12 +57,12 @@ pub data Mode : Type 0 where
 
 -- The line of the byte behind b: a line feed belongs to the line that it ends.
 abbrev pub line_after : ℕ → ℕ → ℕ
-line_after b line = if b == 10 then line + 1 else line
+line_after b line = if b == line_feed then line + 1 else line
 
 -- Where the byte behind b stands: a comment begins with a percent sign and ends before a line feed.
 abbrev pub mode_after : Mode → ℕ → Mode
-mode_after Comment b = if b == 10 then Between else Comment
-mode_after m b = if b == 37 then Comment else (if is_word b then Inside else Between)
+mode_after Comment b = if b == line_feed then Between else Comment
+mode_after m b = if b == percent then Comment else (if is_word b then Inside else Between)
 
 -- The longest token that begins with the byte b, in front of bs.
 abbrev pub text_from : ℕ → List ℕ → List ℕ
@@ -42,21 +71,20 @@ text_from b bs = if is_word b then (b ∷ take_while is_word bs) else (if is_bra
 -- Whether a token begins with the byte b.
 abbrev pub begins : Mode → ℕ → Bool
 begins Comment b = false
-begins Inside b = not (is_word b || is_blank b || (b == 37))
-begins Between b = not (is_blank b || (b == 37))
+begins Inside b = not (is_word b || is_blank b || (b == percent))
+begins Between b = not (is_blank b || (b == percent))
 
 -- The bytes have ended, or a token begins with the first.
 abbrev pub begins_token : List ℕ → Type 0
 begins_token [] = Unit {0}
 begins_token (b ∷ bs) = IsTrue (begins Between b)
 
--- The tokens that begin in the bytes from a place on.
+-- The tokens that begin in the bytes from one place on.
 unfoldable pub tokens_from : Mode → ℕ → ℕ → List ℕ → List Token
 tokens_from m line at [] = []
 tokens_from m line at (b ∷ bs) =
-    if begins m b
-    then record { line = line; at = at; text = text_from b bs } ∷ tokens_from (mode_after m b) (line_after b line) (at + 1) bs
-    else tokens_from (mode_after m b) (line_after b line) (at + 1) bs
+    let rest = tokens_from (mode_after m b) (line_after b line) (at + 1) bs in
+    if begins m b then record { line = line; at = at; text = text_from b bs } ∷ rest else rest
 
 -- The line of the last byte, where `last` is that of the byte before.
 unfoldable pub last_line : ℕ → ℕ → List ℕ → ℕ

@@ -6,21 +6,17 @@ ghost use Rattle.gcl_reader.specs.Grammar.{Gives, token_at, arg_with, number_in,
 
 use crate::file::{Arg, What};
 use crate::lexer::{Lexeme, Lexer};
+use crate::limits::{MOST_BYTE, UNIT};
 use crate::name::Name;
 use crate::refusal::{GclFault, Kind, Refusal};
-use crate::word::{Place, Range};
-use fixed_point::{Fix, NumberFault, read_fix, ticks};
+use crate::word::{Parameter, Range};
+use fixed_point::{Fix, MOST_TICKS, NumberFault, read_fix, ticks};
 
 /// The refusal of a token.
 pub fn refused(kind: Kind, token: Lexeme<'_>) -> Refusal
     ensures { result ≡ refused kind (token_of token.entry) }
 {
-    Refusal {
-        line: token.line,
-        kind,
-        at: token.at,
-        len: token.text.len() as u32,
-    }
+    token.span().refusal(kind)
 }
 
 /// The next token, which is text.
@@ -35,12 +31,7 @@ pub fn token_at<'a>(lexer: &mut Lexer<'a>) -> Result<Lexeme<'a>, GclFault>
             }
             Ok(token)
         }
-        Err(end) => Err(GclFault::Refused(Refusal {
-            line: end.line,
-            kind: Kind::EndInside,
-            at: end.at,
-            len: 0,
-        })),
+        Err(end) => Err(GclFault::Refused(end.span().refusal(Kind::EndInside))),
     }
 }
 
@@ -52,11 +43,12 @@ fn in_range(range: Range, number: Fix) -> bool
         Range::Any => true,
         Range::Byte => {
             let millionths = number.millionths();
-            0 <= millionths && millionths <= 255_000_000 && millionths % 1_000_000 == 0
+            let most = MOST_BYTE as i64 * UNIT as i64;
+            0 <= millionths && millionths <= most && millionths % UNIT as i64 == 0
         }
         Range::Picture => {
             let ticks = ticks(number);
-            1 <= ticks && ticks <= 100_000_000
+            1 <= ticks && ticks <= MOST_TICKS as i64
         }
     }
 }
@@ -97,23 +89,23 @@ fn number_in(range: Range, token: Lexeme<'_>) -> Result<Arg, Refusal>
     }
 }
 
-/// What a token says in a place.
-pub fn arg_of(place: Place, token: Lexeme<'_>) -> Result<Arg, Refusal>
-    ensures { result ≡ arg_of place (token_of token.entry) }
+/// What a token says for a parameter.
+pub fn arg_of(parameter: Parameter, token: Lexeme<'_>) -> Result<Arg, Refusal>
+    ensures { result ≡ arg_of parameter (token_of token.entry) }
 {
-    match place {
-        Place::Number(range) => number_in(range, token),
+    match parameter {
+        Parameter::Number(range) => number_in(range, token),
         _ => name_in(token),
     }
 }
 
-/// The next token in a place.
+/// The next token, for a parameter.
 #[tactic(auto, unfolding(crate::specs::Grammar::arg_at))]
-pub fn arg_at(place: Place, lexer: &mut Lexer<'_>) -> Result<Arg, GclFault>
-    ensures { Gives (λ a. (a, ahead lexer.new)) result (arg_at place (ahead lexer.old)) }
+pub fn arg_at(parameter: Parameter, lexer: &mut Lexer<'_>) -> Result<Arg, GclFault>
+    ensures { Gives (λ a. (a, ahead lexer.new)) result (arg_at parameter (ahead lexer.old)) }
 {
     let token = token_at(lexer)?;
-    match arg_of(place, token) {
+    match arg_of(parameter, token) {
         Ok(arg) => Ok(arg),
         Err(refusal) => Err(GclFault::Refused(refusal)),
     }

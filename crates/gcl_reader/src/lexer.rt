@@ -1,8 +1,11 @@
 ghost use Rattle.std.specs.Prelude.{◌≡◌, ◌+◌, ◌≤◌, ◌<◌, ◌^◌, ◌∷◌, take, drop, length, IsSome};
+ghost use Rattle.gcl_reader.specs.declared.limits.TheConstants.{MOST_BYTES};
 
 use crate::bytes::{is_blank, is_brace, is_word, word_len};
+use crate::limits::MOST_BYTES;
+use crate::span::Span;
 
-/// A token with its place. A token without text is a byte that is no text.
+/// A token, and where it stands. A token without text is a byte that is no text.
 #[derive(Clone, Copy)]
 pub struct Lexeme<'a> {
     pub line: u32,
@@ -11,11 +14,40 @@ pub struct Lexeme<'a> {
     ghost short: { length text.now < 2 ^ 31 },
 }
 
+impl<'a> Lexeme<'a> {
+    ghost use Rattle.gcl_reader.specs.Ahead.{token_of};
+    ghost use Rattle.gcl_reader.specs.Grammar.{span_of_token};
+
+    /// Where it stands.
+    pub fn span(&self) -> Span
+        ensures { result ≡ span_of_token (token_of self.now) }
+    {
+        Span {
+            line: self.line,
+            at: self.at,
+            len: self.text.len() as u32,
+        }
+    }
+}
+
 /// Where a file ends: the line of its last byte, and its length.
 #[derive(Clone, Copy)]
 pub struct End {
     pub line: u32,
     pub at: u32,
+}
+
+impl End {
+    /// Where no token is left.
+    pub fn span(&self) -> Span
+        ensures { result ≡ record { line = self.now.line; at = self.now.at; len = 0 } }
+    {
+        Span {
+            line: self.line,
+            at: self.at,
+            len: 0,
+        }
+    }
 }
 
 /// Reads the tokens of a file, one at a time.
@@ -36,7 +68,7 @@ impl<'a> Lexer<'a> {
     ghost use Rattle.gcl_reader.specs.Ahead.{ahead, ahead_in, next_of, token_of};
 
     pub fn new(bytes: &'a [u8]) -> Lexer<'a>
-        requires { length bytes.now ≤ 2 ^ 20 }
+        requires { length bytes.now ≤ MOST_BYTES }
         ensures { ahead result ≡ lexed bytes.now }
     {
         Lexer {

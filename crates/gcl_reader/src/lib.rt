@@ -5,20 +5,24 @@ mod argument;
 mod bytes;
 mod file;
 mod lexer;
+mod limits;
 mod name;
 mod reading;
 mod refusal;
 mod showing;
+mod span;
 mod table;
 mod word;
 
 pub use file::{Arg, Command, File, What};
+pub use limits::{LONGEST_NAME, MOST_BYTE, MOST_BYTES, MOST_COMMANDS, UNIT};
 pub use name::Name;
 pub use reading::{read, spelled_is_read};
 pub use refusal::{GclFault, Kind, Refusal};
 pub use showing::{show, shown_is_read};
-pub use table::places_of;
-pub use word::{Head, Place, Range, Side, Statement, Word};
+pub use span::Span;
+pub use table::parameters_of;
+pub use word::{Parameter, Range, Side, Statement, Word};
 
 #[cfg(test)]
 mod tests;

@@ -1,13 +1,18 @@
 ghost use Rattle.std.specs.Prelude.{◌≡◌, ◌≤◌, List, ℕ, take, length, IsTrue};
 ghost use Rattle.std.specs.List.{list_all};
+ghost use Rattle.std.specs.Str.{bytes_eq};
+ghost use Rattle.std.specs.Cmp.Rules.{comparing};
+ghost use Rattle.std.proofs.Common.{rules};
+ghost use Rattle.gcl_reader.specs.declared.limits.TheConstants.{LONGEST_NAME};
 ghost use Rattle.gcl_reader.specs.Name.{is_letter, is_name_byte, is_name, name_of};
 
+use crate::limits::LONGEST_NAME;
 use std::marker::Model;
 
-/// A name: a letter and at most 31 letters, digits, underscores and apostrophes, all of ASCII.
-#[derive(Drop)]
+/// A name: a letter, and letters, digits, underscores and apostrophes, all of ASCII; at most `LONGEST_NAME` bytes.
+#[derive(Clone, Debug, Drop)]
 pub struct Name {
-    bytes: [u8; 32],
+    bytes: [u8; LONGEST_NAME],
     len: u8,
 }
 
@@ -16,7 +21,17 @@ impl Model for Name {
 
     ghost view = { λ name. take name.len name.bytes };
 
-    ghost invariant = { λ name. (name.len ≤ 32) × IsTrue (is_name (take name.len name.bytes)) };
+    ghost invariant = { λ name. (name.len ≤ LONGEST_NAME) × IsTrue (is_name (take name.len name.bytes)) };
+}
+
+impl PartialEq for Name {
+    ghost eq = { bytes_eq };
+
+    ghost laws = { Prim.search (comparing, rules) };
+
+    fn eq(&self, other: &Name) -> bool {
+        self.bytes() == other.bytes()
+    }
 }
 
 fn is_letter(byte: u8) -> bool
@@ -41,11 +56,13 @@ fn all_name_bytes(text: &[u8]) -> bool
 #[tactic(auto, unfolding(crate::specs::Name::is_name))]
 fn is_name(text: &[u8]) -> bool
     ensures value { result ≡ is_name text.now }
-    ensures short { IsTrue result → length text.now ≤ 32 }
+    ensures short { IsTrue result → length text.now ≤ LONGEST_NAME }
 {
     match text {
         [] => false,
-        [first, rest @ ..] => { is_letter(*first) && rest.len() <= 31 && all_name_bytes(rest) }
+        [first, rest @ ..] => {
+            is_letter(*first) && rest.len() < LONGEST_NAME && all_name_bytes(rest)
+        }
     }
 }
 
@@ -57,7 +74,7 @@ impl Name {
         if !is_name(text) {
             return None;
         }
-        let mut bytes = [0; 32];
+        let mut bytes = [0; LONGEST_NAME];
         let len = text.len();
         bytes[..len].copy_from_slice(text);
         Some(Name {

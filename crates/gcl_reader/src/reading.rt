@@ -1,31 +1,35 @@
 ghost use Rattle.std.specs.Prelude.{◌≡◌, ◌+◌, ◌≤◌, ◌<◌, ◌^◌, length, [], ◌∷◌, option_map, Option, Some, None, IfOk};
+ghost use Rattle.gcl_reader.specs.declared.limits.TheConstants.{MOST_BYTES, MOST_COMMANDS};
 ghost use Rattle.gcl_reader.specs.Tokens.{lexed, put, tokens};
 ghost use Rattle.gcl_reader.specs.Fitting.{IsFitting};
 ghost use Rattle.gcl_reader.specs.Spelling.{Spells, SpelledIsRead};
 ghost use Rattle.gcl_reader.specs.Ahead.{ahead, token_of, first_of};
-ghost use Rattle.gcl_reader.specs.Table.{places_of};
+ghost use Rattle.gcl_reader.specs.Table.{parameters_of};
 ghost use Rattle.gcl_reader.specs.Grammar.{Gives, args_at, brace_at, statement_at, word_at, close_at, command_at, first_at, commands_at, file_of};
 
 use crate::argument::{arg_at, refused, token_at};
 use crate::file::{Arg, Command, File};
 use crate::lexer::{Lexeme, Lexer};
-use crate::refusal::{GclFault, Kind, Refusal};
-use crate::table::{head_of, places_of, statement_of};
-use crate::word::{Head, Place, Statement, Word};
+use crate::limits::{MOST_BYTES, MOST_COMMANDS};
+use crate::refusal::{GclFault, Kind};
+use crate::table::{head_of, parameters_of, statement_of};
+use crate::word::{Head, Parameter, Statement, Word};
 use fixed_point::Row;
 use std::alloc::Global;
 
-/// The most commands of a file.
-const MOST_COMMANDS: usize = 20_000;
-
-/// The next tokens, one in each place.
-fn args_at(alloc: Global, places: &[Place], lexer: &mut Lexer<'_>) -> Result<Vec<Arg>, GclFault>
-    ensures { Gives (λ v. (v.items, ahead lexer.new)) result (args_at places.now (ahead lexer.old)) }
+/// The next tokens, one for each parameter.
+fn args_at(
+    alloc: Global,
+    parameters: &[Parameter],
+    lexer: &mut Lexer<'_>,
+) -> Result<Vec<Arg>, GclFault>
+    ensures { Gives (λ v. (v.items, ahead lexer.new)) result
+        (args_at parameters.now (ahead lexer.old)) }
 {
     let mut args = Vec::new(alloc);
-    let mut rest = places;
-    while let [place, after @ ..] = rest {
-        let arg = arg_at(*place, lexer)?;
+    let mut rest = parameters;
+    while let [parameter, after @ ..] = rest {
+        let arg = arg_at(*parameter, lexer)?;
         args.push(arg)?;
         rest = after;
     }
@@ -34,11 +38,11 @@ fn args_at(alloc: Global, places: &[Place], lexer: &mut Lexer<'_>) -> Result<Vec
 
 /// The next token, which is the brace.
 #[tactic(auto, unfolding(crate::specs::Grammar::brace_at))]
-fn brace_at(brace: u8, lexer: &mut Lexer<'_>) -> Result<(), GclFault>
-    ensures { Gives (λ _. ahead lexer.new) result (brace_at brace (ahead lexer.old)) }
+fn brace_at(brace: &[u8], lexer: &mut Lexer<'_>) -> Result<(), GclFault>
+    ensures { Gives (λ _. ahead lexer.new) result (brace_at brace.now (ahead lexer.old)) }
 {
     let token = token_at(lexer)?;
-    if token.text == [brace].as_slice() {
+    if token.text == brace {
         Ok(())
     } else {
         Err(GclFault::Refused(refused(Kind::WantsBrace, token)))
@@ -65,7 +69,7 @@ fn word_at(head: Head, lexer: &mut Lexer<'_>) -> Result<Word, GclFault>
     match head {
         Head::Word(word) => Ok(word),
         Head::Prove => {
-            brace_at(b'{', lexer)?;
+            brace_at(b"{", lexer)?;
             let statement = statement_at(lexer)?;
             Ok(Word::Prove(statement))
         }
@@ -79,7 +83,7 @@ fn close_at(head: Head, lexer: &mut Lexer<'_>) -> Result<(), GclFault>
 {
     match head {
         Head::Word(_) => Ok(()),
-        Head::Prove => brace_at(b'}', lexer),
+        Head::Prove => brace_at(b"}", lexer),
     }
 }
 
@@ -91,10 +95,11 @@ fn command_at(
     head: Head,
     lexer: &mut Lexer<'_>,
 ) -> Result<Command, GclFault>
-    ensures { Gives (λ c. (c, ahead lexer.new)) result (command_at (token_of token.entry) head (ahead lexer.old)) }
+    ensures { Gives (λ c. (c, ahead lexer.new)) result
+        (command_at (token_of token.entry) head (ahead lexer.old)) }
 {
     let word = word_at(head, lexer)?;
-    let args = args_at(alloc, places_of(word), lexer)?;
+    let args = args_at(alloc, parameters_of(&word), lexer)?;
     close_at(head, lexer)?;
     Ok(Command {
         word,
@@ -131,7 +136,7 @@ fn commands_at(alloc: Global, lexer: &mut Lexer<'_>) -> Result<Vec<Command>, Gcl
         let Some((token, head)) = first_at(lexer)? else {
             return Ok(commands);
         };
-        let full = commands.len() == MOST_COMMANDS;
+        let full = commands.len() as u64 == MOST_COMMANDS;
         if full {
             return Err(GclFault::Refused(refused(Kind::TooManyCommands, token)));
         }
@@ -140,11 +145,11 @@ fn commands_at(alloc: Global, lexer: &mut Lexer<'_>) -> Result<Vec<Command>, Gcl
     }
 }
 
-/// Reads a file of at most 1 MiB, or refuses it at its first token that offends.
+/// Reads a file of at most `MOST_BYTES` bytes, or refuses it at its first token that offends.
 ///
 /// The names of the file are not looked up: that is the next stage's work.
 pub fn read(alloc: Global, bytes: &[u8]) -> Result<File, GclFault>
-    requires { length bytes.now ≤ 2 ^ 20 }
+    requires { length bytes.now ≤ MOST_BYTES }
     ensures value { Gives (λ f. f.commands) result (file_of bytes.now) }
     ensures fitting { IfOk result (λ f. IsFitting f.commands) }
     ensures spelled { IfOk result (λ f. Spells (tokens bytes.now) f.commands) }

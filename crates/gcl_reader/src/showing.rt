@@ -11,7 +11,8 @@ use desk_io::{Failed, Pen, Sink};
 
 /// Writes the value of an argument.
 fn write_value<S: Sink>(what: &What, pen: &mut Pen, sink: &mut S) -> Result<(), Failed>
-    ensures bytes { Writes (S.written sink.old) (S.written sink.new) pen.old pen.new result (value_text what.now) }
+    ensures bytes { Writes (S.written sink.old) (S.written sink.new) pen.old pen.new result
+        (value_text what.now) }
     ensures cause { HasCause (S.faults sink.old) (S.faults sink.new) result }
 {
     match what {
@@ -22,7 +23,8 @@ fn write_value<S: Sink>(what: &What, pen: &mut Pen, sink: &mut S) -> Result<(), 
 
 /// Writes an argument behind a blank.
 fn write_arg<S: Sink>(arg: &Arg, pen: &mut Pen, sink: &mut S) -> Result<(), Failed>
-    ensures bytes { Writes (S.written sink.old) (S.written sink.new) pen.old pen.new result (arg_text arg.now) }
+    ensures bytes { Writes (S.written sink.old) (S.written sink.new) pen.old pen.new result
+        (arg_text arg.now) }
     ensures cause { HasCause (S.faults sink.old) (S.faults sink.new) result }
 {
     pen.push(sink, b" ")?;
@@ -31,7 +33,8 @@ fn write_arg<S: Sink>(arg: &Arg, pen: &mut Pen, sink: &mut S) -> Result<(), Fail
 
 /// Writes the arguments of a command.
 fn write_args<S: Sink>(args: &[Arg], pen: &mut Pen, sink: &mut S) -> Result<(), Failed>
-    ensures bytes { Writes (S.written sink.old) (S.written sink.new) pen.old pen.new result (flat_map arg_text args.now) }
+    ensures bytes { Writes (S.written sink.old) (S.written sink.new) pen.old pen.new result
+        (flat_map arg_text args.now) }
     ensures cause { HasCause (S.faults sink.old) (S.faults sink.new) result }
 {
     for arg in args {
@@ -42,12 +45,13 @@ fn write_args<S: Sink>(args: &[Arg], pen: &mut Pen, sink: &mut S) -> Result<(), 
 
 /// Writes a statement over its points, in braces.
 fn write_statement<S: Sink>(
-    statement: Statement,
+    statement: &Statement,
     points: &[Arg],
     pen: &mut Pen,
     sink: &mut S,
 ) -> Result<(), Failed>
-    ensures bytes { Writes (S.written sink.old) (S.written sink.new) pen.old pen.new result (rest_text (Some statement) points.now) }
+    ensures bytes { Writes (S.written sink.old) (S.written sink.new) pen.old pen.new result
+        (rest_text (Some statement.now) points.now) }
     ensures cause { HasCause (S.faults sink.old) (S.faults sink.new) result }
 {
     pen.push(sink, b" { ")?;
@@ -57,8 +61,9 @@ fn write_statement<S: Sink>(
 }
 
 /// Writes what stands behind the word of a command.
-fn write_rest<S: Sink>(word: Word, args: &[Arg], pen: &mut Pen, sink: &mut S) -> Result<(), Failed>
-    ensures bytes { Writes (S.written sink.old) (S.written sink.new) pen.old pen.new result (rest_text (statement_in word) args.now) }
+fn write_rest<S: Sink>(word: &Word, args: &[Arg], pen: &mut Pen, sink: &mut S) -> Result<(), Failed>
+    ensures bytes { Writes (S.written sink.old) (S.written sink.new) pen.old pen.new result
+        (rest_text (statement_in word.now) args.now) }
     ensures cause { HasCause (S.faults sink.old) (S.faults sink.new) result }
 {
     match word {
@@ -69,17 +74,19 @@ fn write_rest<S: Sink>(word: Word, args: &[Arg], pen: &mut Pen, sink: &mut S) ->
 
 /// Writes a command as a line.
 fn write_command<S: Sink>(command: &Command, pen: &mut Pen, sink: &mut S) -> Result<(), Failed>
-    ensures bytes { Writes (S.written sink.old) (S.written sink.new) pen.old pen.new result (line_text command.now) }
+    ensures bytes { Writes (S.written sink.old) (S.written sink.new) pen.old pen.new result
+        (line_text command.now) }
     ensures cause { HasCause (S.faults sink.old) (S.faults sink.new) result }
 {
-    pen.push(sink, text_of(command.word))?;
-    write_rest(command.word, command.args.as_slice(), pen, sink)?;
+    pen.push(sink, text_of(&command.word))?;
+    write_rest(&command.word, command.args.as_slice(), pen, sink)?;
     pen.push(sink, b"\n")
 }
 
 /// Writes commands, each as a line.
 fn write_commands<S: Sink>(commands: &[Command], pen: &mut Pen, sink: &mut S) -> Result<(), Failed>
-    ensures bytes { Writes (S.written sink.old) (S.written sink.new) pen.old pen.new result (show_text commands.now) }
+    ensures bytes { Writes (S.written sink.old) (S.written sink.new) pen.old pen.new result
+        (show_text commands.now) }
     ensures cause { HasCause (S.faults sink.old) (S.faults sink.new) result }
 {
     for command in commands {
@@ -91,7 +98,8 @@ fn write_commands<S: Sink>(commands: &[Command], pen: &mut Pen, sink: &mut S) ->
 /// Writes the canonical spelling of a file: a command on each line, its tokens parted by single blanks, its numbers as
 /// `Fix::write` spells them. Comments and the places of the tokens are not kept.
 pub fn show<S: Sink>(file: &File, pen: &mut Pen, sink: &mut S) -> Result<(), Failed>
-    ensures bytes { Writes (S.written sink.old) (S.written sink.new) pen.old pen.new result (show_text file.now.commands) }
+    ensures bytes { Writes (S.written sink.old) (S.written sink.new) pen.old pen.new result
+        (show_text file.now.commands) }
     ensures cause { HasCause (S.faults sink.old) (S.faults sink.new) result }
 {
     write_commands(file.commands.as_slice(), pen, sink)

@@ -1,7 +1,7 @@
 ghost use Rattle.std.specs.Prelude.{◌≡◌, List, ℕ};
-ghost use Rattle.gcl_reader.specs.Table.{named, heads, statements, head_text, statement_text, head_of, statement_of, places_of, points_of, text_of};
+ghost use Rattle.gcl_reader.specs.Table.{named, heads, statements, head_text, statement_text, head_of, statement_of, parameters_of, points_of, text_of};
 
-use crate::word::{Head, Place, Range, Side, Statement, Word};
+use crate::word::{Head, Parameter, Range, Side, Statement, Word};
 
 /// What has a spelling of its own in the language.
 pub trait Written: Copy {
@@ -16,7 +16,7 @@ impl Written for Head {
 
     fn text(&self) -> &'static [u8] {
         match self {
-            Head::Word(word) => text_of(*word),
+            Head::Word(word) => text_of(word),
             Head::Prove => b"prove",
         }
     }
@@ -38,8 +38,8 @@ impl Written for Statement {
 }
 
 /// How a word is written.
-pub fn text_of(word: Word) -> &'static [u8]
-    ensures { result.now ≡ text_of word }
+pub fn text_of(word: &Word) -> &'static [u8]
+    ensures { result.now ≡ text_of word.now }
 {
     match word {
         Word::Dim => b"dim",
@@ -67,8 +67,8 @@ pub fn text_of(word: Word) -> &'static [u8]
         Word::Drawline => b"drawline",
         Word::Drawcircle => b"drawcircle",
         Word::Cmark => b"cmark",
-        Word::CmarkAt(side) => ring_text(side),
-        Word::Mark(side) => mark_text(side),
+        Word::CmarkAt(side) => ring_text(*side),
+        Word::Mark(side) => mark_text(*side),
         Word::Prove(_) => b"prove",
     }
 }
@@ -201,70 +201,93 @@ pub fn statement_of(text: &[u8]) -> Option<Statement>
     named(statements(), text)
 }
 
-/// The places behind a word.
-pub fn places_of(word: Word) -> &'static [Place]
-    ensures { result.now ≡ places_of word }
+/// The parameters of a word.
+pub fn parameters_of(word: &Word) -> &'static [Parameter]
+    ensures { result.now ≡ parameters_of word.now }
 {
     match word {
-        Word::Dim => &[Place::Number(Range::Picture), Place::Number(Range::Picture)],
+        Word::Dim => &[
+            Parameter::Number(Range::Picture),
+            Parameter::Number(Range::Picture),
+        ],
         Word::Color => &[
-            Place::Number(Range::Byte),
-            Place::Number(Range::Byte),
-            Place::Number(Range::Byte),
+            Parameter::Number(Range::Byte),
+            Parameter::Number(Range::Byte),
+            Parameter::Number(Range::Byte),
         ],
-        Word::Prooflevel => &[Place::Number(Range::Any)],
-        Word::Prooflimit => &[Place::Number(Range::Any)],
-        Word::ProverTimeout => &[Place::Number(Range::Any)],
+        Word::Prooflevel => &[Parameter::Number(Range::Any)],
+        Word::Prooflimit => &[Parameter::Number(Range::Any)],
+        Word::ProverTimeout => &[Parameter::Number(Range::Any)],
         Word::Point => &[
-            Place::NewPoint,
-            Place::Number(Range::Any),
-            Place::Number(Range::Any),
+            Parameter::NewPoint,
+            Parameter::Number(Range::Any),
+            Parameter::Number(Range::Any),
         ],
-        Word::Line => &[Place::NewLine, Place::Point, Place::Point],
-        Word::Circle => &[Place::NewCircle, Place::Point, Place::Point],
-        Word::Intersec => &[Place::NewPoint, Place::Line, Place::Line],
+        Word::Line => &[Parameter::NewLine, Parameter::Point, Parameter::Point],
+        Word::Circle => &[Parameter::NewCircle, Parameter::Point, Parameter::Point],
+        Word::Intersec => &[Parameter::NewPoint, Parameter::Line, Parameter::Line],
         Word::Intersec2 => &[
-            Place::NewPoint,
-            Place::NewPoint,
-            Place::Curve,
-            Place::OtherCurve,
+            Parameter::NewPoint,
+            Parameter::NewPoint,
+            Parameter::Curve,
+            Parameter::OtherCurve,
         ],
-        Word::Midpoint => &[Place::NewPoint, Place::Point, Place::Point],
-        Word::Med => &[Place::NewLine, Place::Point, Place::Point],
-        Word::Perp => &[Place::NewLine, Place::Point, Place::Line],
-        Word::Parallel => &[Place::NewLine, Place::Point, Place::Line],
-        Word::Foot => &[Place::NewPoint, Place::Point, Place::Line],
-        Word::Online => &[Place::NewPoint, Place::Point, Place::Point],
-        Word::Oncircle => &[Place::NewPoint, Place::Point, Place::Point],
-        Word::Translate => &[Place::NewPoint, Place::Point, Place::Point, Place::Point],
+        Word::Midpoint => &[Parameter::NewPoint, Parameter::Point, Parameter::Point],
+        Word::Med => &[Parameter::NewLine, Parameter::Point, Parameter::Point],
+        Word::Perp => &[Parameter::NewLine, Parameter::Point, Parameter::Line],
+        Word::Parallel => &[Parameter::NewLine, Parameter::Point, Parameter::Line],
+        Word::Foot => &[Parameter::NewPoint, Parameter::Point, Parameter::Line],
+        Word::Online => &[Parameter::NewPoint, Parameter::Point, Parameter::Point],
+        Word::Oncircle => &[Parameter::NewPoint, Parameter::Point, Parameter::Point],
+        Word::Translate => &[
+            Parameter::NewPoint,
+            Parameter::Point,
+            Parameter::Point,
+            Parameter::Point,
+        ],
         Word::Towards => &[
-            Place::NewPoint,
-            Place::Point,
-            Place::Point,
-            Place::Number(Range::Any),
+            Parameter::NewPoint,
+            Parameter::Point,
+            Parameter::Point,
+            Parameter::Number(Range::Any),
         ],
-        Word::Drawpoint => &[Place::Point],
-        Word::Drawsegment => &[Place::Point, Place::Point],
-        Word::Drawdashsegment => &[Place::Point, Place::Point],
-        Word::Drawline => &[Place::Line],
-        Word::Drawcircle => &[Place::Circle],
-        Word::Cmark => &[Place::Point],
-        Word::CmarkAt(_) => &[Place::Point],
-        Word::Mark(_) => &[Place::Point],
+        Word::Drawpoint => &[Parameter::Point],
+        Word::Drawsegment => &[Parameter::Point, Parameter::Point],
+        Word::Drawdashsegment => &[Parameter::Point, Parameter::Point],
+        Word::Drawline => &[Parameter::Line],
+        Word::Drawcircle => &[Parameter::Circle],
+        Word::Cmark => &[Parameter::Point],
+        Word::CmarkAt(_) => &[Parameter::Point],
+        Word::Mark(_) => &[Parameter::Point],
         Word::Prove(statement) => points_of(statement),
     }
 }
 
-/// The places of a statement.
-fn points_of(statement: Statement) -> &'static [Place]
-    ensures { result.now ≡ points_of statement }
+/// What stands behind a statement.
+fn points_of(statement: &Statement) -> &'static [Parameter]
+    ensures { result.now ≡ points_of statement.now }
 {
     match statement {
-        Statement::Identical => &[Place::Point, Place::Point],
-        Statement::Collinear => &[Place::Point, Place::Point, Place::Point],
-        Statement::Perpendicular => &[Place::Point, Place::Point, Place::Point, Place::Point],
-        Statement::Parallel => &[Place::Point, Place::Point, Place::Point, Place::Point],
-        Statement::Midpoint => &[Place::Point, Place::Point, Place::Point],
-        Statement::SameLength => &[Place::Point, Place::Point, Place::Point, Place::Point],
+        Statement::Identical => &[Parameter::Point, Parameter::Point],
+        Statement::Collinear => &[Parameter::Point, Parameter::Point, Parameter::Point],
+        Statement::Perpendicular => &[
+            Parameter::Point,
+            Parameter::Point,
+            Parameter::Point,
+            Parameter::Point,
+        ],
+        Statement::Parallel => &[
+            Parameter::Point,
+            Parameter::Point,
+            Parameter::Point,
+            Parameter::Point,
+        ],
+        Statement::Midpoint => &[Parameter::Point, Parameter::Point, Parameter::Point],
+        Statement::SameLength => &[
+            Parameter::Point,
+            Parameter::Point,
+            Parameter::Point,
+            Parameter::Point,
+        ],
     }
 }

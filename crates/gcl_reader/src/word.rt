@@ -58,7 +58,7 @@ pub enum Word {
     Prove(Statement),
 }
 
-/// Which numbers a place takes: any, a whole one from 0 to 255, or the size of a picture in millimetres.
+/// Which numbers a parameter takes: any, a whole one from 0 to 255, or the size of a picture in millimetres.
 #[derive(Clone, Copy, Debug, PartialEq, Eq)]
 pub enum Range {
     Any,
@@ -66,13 +66,13 @@ pub enum Range {
     Picture,
 }
 
-/// What stands in one place of a command.
+/// What an argument of a command is to be.
 ///
 /// The reader tells a name from a number. The kinds of names are for the stage that looks the names up: a new name,
 /// or one of a point, a line or a circle. A `Curve` is a line or a circle. An `OtherCurve` behind it is a circle, or a
 /// line where the first is a circle.
 #[derive(Clone, Copy, Debug, PartialEq, Eq)]
-pub enum Place {
+pub enum Parameter {
     NewPoint,
     NewLine,
     NewCircle,

@@ -9,4 +9,11 @@ unfolding resolved
 returns-clause-sound c =
     let program : Program = record { acts = c.from_vec.result; points = c.into_row.result; lines = c.acts_in.new.scope.lines; circles = c.acts_in.new.scope.circles; proves = c.acts_in.new.scope.proves } in
     let gives : resolved c.args.file.now.commands ≡ Ok program = search rules in
-    resolved-sound c.args.file.now.commands program c.requires gives
+    (resolved-sound c.args.file.now.commands program c.requires gives).0
+
+pub returns-clause-whole : goal.returns-clause-whole
+unfolding resolved
+returns-clause-whole c =
+    let program : Program = record { acts = c.from_vec.result; points = c.into_row.result; lines = c.acts_in.new.scope.lines; circles = c.acts_in.new.scope.circles; proves = c.acts_in.new.scope.proves } in
+    let gives : resolved c.args.file.now.commands ≡ Ok program = search rules in
+    (resolved-sound c.args.file.now.commands program c.requires gives).1

@@ -9,7 +9,7 @@ pub returns-in_err-arg : goal.returns-in_err-arg
 returns-in_err-arg c =
     let p = err_from_is_err_and c.from_residual.result c.from_residual.ensures.1 in
     let h = c.in_err-arg.ensures in
-    rw (p.1, p.2) (args-fail c.in_err-arg.field-0.0 c.loop-rest.args.items _ c.loop-rest.rest.now (ahead c.loop-rest.lexer) (args_at c.args.places.now (ahead c.args.lexer.now)) c.in-len1-up.len_at_least h c.loop-rest.invariant)
+    rw (p.1, p.2) (args-fail c.in_err-arg.field-0.0 c.loop-rest.args.items _ c.loop-rest.rest.now (ahead c.loop-rest.lexer) (args_at c.args.parameters.now (ahead c.args.lexer.now)) c.in-len1-up.len_at_least h c.loop-rest.invariant)
 
 pub loop-rest-preserved : goal.loop-rest-preserved
 loop-rest-preserved c =
@@ -17,4 +17,4 @@ loop-rest-preserved c =
     rw c.in_ok-push.ensures.items (args-more c.loop-rest.args.items _ c.loop-rest.rest.now (ahead c.loop-rest.lexer) c.in_ok-arg.arg (ahead c.arg_at.new.lexer) c.in-len1-up.len_at_least h ∙ c.loop-rest.invariant)
 
 pub returns : goal.returns
-returns c = args-done c.loop-rest.args.items c.loop-rest.rest.now (ahead c.loop-rest.lexer) (args_at c.args.places.now (ahead c.args.lexer.now)) c.in_default.len_below c.loop-rest.invariant
+returns c = args-done c.loop-rest.args.items c.loop-rest.rest.now (ahead c.loop-rest.lexer) (args_at c.args.parameters.now (ahead c.args.lexer.now)) c.in_default.len_below c.loop-rest.invariant

@@ -4,7 +4,7 @@ use Rattle.gcl_reader.specs.Ahead.{ahead, token_of, first_of}
 use Rattle.gcl_reader.specs.declared.lexer.Lexeme.{Lexeme}
 use Rattle.gcl_reader.specs.declared.word.Head.{Head}
 use Rattle.gcl_reader.specs.Grammar.{commands_at}
-use Rattle.gcl_reader.specs.declared.reading.TheConstants.{MOST_COMMANDS}
+use Rattle.gcl_reader.specs.declared.limits.TheConstants.{MOST_COMMANDS}
 use Rattle.gcl_reader.proofs.Front.{commands-more, commands-first-fail, commands-fail, commands-many, commands-done}
 use Rattle.gcl_reader.proofs.reading.commands_at.Goals as goal
 
@@ -22,7 +22,7 @@ returns-in_default c = let s = c.loop-commands in
 pub returns-then-full : goal.returns-then-full
 returns-then-full c = let s = c.loop-commands in
     rw c.refused.ensures (commands-many MOST_COMMANDS (vec_len s.commands) s.commands.items (ahead s.lexer) (token_of c.in-Some.token) c.in-Some.head (ahead c.first_at.new.lexer) (commands_at MOST_COMMANDS (ahead c.args.lexer.now))
-    (sym c.len-full.ensures ∙ c.if-full.true)
+    (sym c.len.ensures ∙ c.if-full.true)
     (c.in_ok-token.ensures ∙ ap (λ (f : Option (Lexeme × Head)). Ok (first_of f (ahead c.first_at.new.lexer))) c.in-Some.is) s.invariant.1)
 
 pub returns-in_err-command : goal.returns-in_err-command

@@ -2,7 +2,7 @@ use Rattle.std.proofs.Common.{◌≡◌, ◌≤◌, ◌-◌, vec_len}
 use Rattle.gcl_reader.specs.Ahead.{ahead}
 use Rattle.gcl_reader.specs.Grammar.{commands_at}
 use Rattle.gcl_reader.proofs.Front.{commands_behind}
-use Rattle.gcl_reader.specs.declared.reading.TheConstants.{MOST_COMMANDS}
+use Rattle.gcl_reader.specs.declared.limits.TheConstants.{MOST_COMMANDS}
 use Rattle.gcl_reader.proofs.reading.commands_at.Given as goal
 
 abbrev pub invariant-loop-commands : goal.invariant-loop-commands

@@ -9,14 +9,14 @@ use Rattle.gcl_reader.proofs.showing.write_statement.Goals as goal
 pub returns-in_err-push-clause-bytes : goal.returns-in_err-push-clause-bytes
 returns-in_err-push-clause-bytes g c =
     let points : List ℕ = flat_map arg_text c.args.points.now in
-    first_failed _ _ _ _ _ (codes " { ") (statement_text c.args.statement ++ points ++ codes " }") _ c.from_residual.ensures.0 c.in_err-push.ensures.bytes refl
+    first_failed _ _ _ _ _ (codes " { ") (statement_text c.args.statement.now ++ points ++ codes " }") _ c.from_residual.ensures.0 c.in_err-push.ensures.bytes refl
 
 pub returns-in_err-push-2-clause-bytes : goal.returns-in_err-push-2-clause-bytes
 returns-in_err-push-2-clause-bytes g c =
     let points : List ℕ = flat_map arg_text c.args.points.now in
     next_failed _ _ _ _ _ _ _ (codes " { ") c.text.result.now (points ++ codes " }") _ c.from_residual-in_err-push-2.ensures.0
     c.in_ok-push.ensures.bytes c.in_err-push-2.ensures.bytes
-    (append_assoc (codes " { " ++ statement_text c.args.statement) points (codes " }") ∙ ap (λ (t : List ℕ). (codes " { " ++ t) ++ (points ++ codes " }")) (sym c.text.ensures))
+    (append_assoc (codes " { " ++ statement_text c.args.statement.now) points (codes " }") ∙ ap (λ (t : List ℕ). (codes " { " ++ t) ++ (points ++ codes " }")) (sym c.text.ensures))
 
 pub returns-in_err-write_args-clause-bytes : goal.returns-in_err-write_args-clause-bytes
 returns-in_err-write_args-clause-bytes g c =

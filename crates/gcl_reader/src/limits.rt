@@ -1,0 +1,14 @@
+/// The most bytes of a file.
+pub const MOST_BYTES: u64 = 1_048_576;
+
+/// The most commands of a file.
+pub const MOST_COMMANDS: u64 = 20_000;
+
+/// The most bytes of a name.
+pub const LONGEST_NAME: usize = 32;
+
+/// The millionths in one.
+pub const UNIT: u32 = 1_000_000;
+
+/// The greatest number of a byte.
+pub const MOST_BYTE: u8 = 255;
