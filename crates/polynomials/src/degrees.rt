@@ -1,0 +1,38 @@
+ghost use Rattle.std.specs.Prelude.{◌≡◌, ◌≤◌, IsTrue};
+ghost use Rattle.poly_model.specs.Standard.{is_standard, polynomial_of};
+ghost use Rattle.term_store.specs.States.{IsLive, list_at};
+ghost use Rattle.poly_model.specs.Bounded.{degrees_of, degrees_fit, bounded_product, bounded_sum};
+ghost use Rattle.polynomials.specs.Held.{polynomial_at, IsPoly, Answers};
+
+use crate::exponents::{are_low, exponents_sum, raise};
+use crate::poly::Poly;
+use crate::product::mul_rows;
+use poly_model::{Limit, MOST_VARIABLES};
+use term_store::{Slot, TermStore};
+
+/// The degree in each variable.
+fn degrees<S: TermStore>(s: &S, a: Slot) -> [u8; MOST_VARIABLES]
+    requires live { IsLive (S.state s.now).lists a.0 }
+    requires standard { IsTrue (is_standard (polynomial_of (list_at (S.state s.now).lists a.0))) }
+    ensures { result ≡ degrees_of (polynomial_of (list_at (S.state s.now).lists a.0)) }
+{
+    let mut highest = [0; MOST_VARIABLES];
+    for i in 0..s.len(a) {
+        raise(&mut highest, &s.get(a, i).exps);
+    }
+    highest
+}
+
+/// The product, or the limit that is met first.
+pub fn mul<S: TermStore>(s: &mut S, a: Poly, b: Poly) -> Result<Poly, Limit>
+    requires a { IsPoly (S.state s.old) a }
+    requires b { IsPoly (S.state s.old) b }
+    requires room { 32784 ≤ (S.state s.old).spare }
+    ensures { Answers (S.state s.old) (S.state s.new) result (bounded_product (polynomial_at (S.state s.old) a) (polynomial_at (S.state s.old) b)) }
+{
+    let (first, second) = (degrees(s, a.slot), degrees(s, b.slot));
+    if !are_low(&exponents_sum(&first, &second)) {
+        return Err(Limit::Degree);
+    }
+    mul_rows(s, a, b)
+}

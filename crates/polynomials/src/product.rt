@@ -1,0 +1,95 @@
+ghost use Rattle.std.specs.Prelude.{◌≡◌, ◌≤◌, ◌<◌, ◌+◌, IsTrue, IfOk, IfErr, length, Ok, Err, true, nat_le, unsigned_abs, pos, ◌≢◌};
+ghost use Rattle.poly_model.specs.Polynomial.{IsDescending, poly_sum};
+ghost use Rattle.poly_model.specs.Standard.{polynomial_of, are_low};
+ghost use Rattle.poly_model.specs.declared.limits.TheConstants.{MOST_VARIABLES, MOST_SIZE, MOST_TERMS};
+ghost use Rattle.term_store.specs.States.{IsLive, list_at};
+ghost use Rattle.term_store.specs.Changes.{Makes, Keeps, given_up};
+ghost use Rattle.poly_model.specs.Standard.{are_bounded};
+ghost use Rattle.poly_model.specs.Bounded.{multiple, bounded_sum, bounded_row, bounded_product, degrees_fit};
+ghost use Rattle.poly_model.proofs.Within.{all_low};
+ghost use Rattle.polynomials.specs.Held.{Outcome, polynomial_at, IsPoly, Answers, Gives};
+
+use crate::poly::Poly;
+use crate::rows::{merge, multiple};
+use poly_model::{Limit, MOST_TERMS, Term};
+use term_store::{Slot, TermStore};
+
+/// The sum of two lists within the limits, in a new list.
+fn sum_in<S: TermStore>(s: &mut S, a: Slot, b: Slot) -> Result<Slot, Limit>
+    requires live_a { IsLive (S.state s.old).lists a.0 }
+    requires live_b { IsLive (S.state s.old).lists b.0 }
+    requires descending_a { IsDescending MOST_VARIABLES (polynomial_of (list_at (S.state s.old).lists a.0)) }
+    requires descending_b { IsDescending MOST_VARIABLES (polynomial_of (list_at (S.state s.old).lists b.0)) }
+    requires bounded_a { IsTrue (are_bounded (polynomial_of (list_at (S.state s.old).lists a.0))) }
+    requires bounded_b { IsTrue (are_bounded (polynomial_of (list_at (S.state s.old).lists b.0))) }
+    requires room { length (list_at (S.state s.old).lists a.0) + length (list_at (S.state s.old).lists b.0) < (S.state s.old).spare }
+    ensures { Outcome (S.state s.old) (S.state s.new) result (bounded_sum (polynomial_of (list_at (S.state s.old).lists a.0)) (polynomial_of (list_at (S.state s.old).lists b.0))) }
+{
+    let Some(sum) = merge(s, a, b) else {
+        return Err(Limit::Bound);
+    };
+    if s.len(sum) > MOST_TERMS {
+        s.free(sum);
+        return Err(Limit::Terms);
+    }
+    Ok(sum)
+}
+
+/// A row of a product, added to the sum so far, which is given up.
+fn add_row<S: TermStore>(s: &mut S, factor: &Term, q: Slot, sum: Slot) -> Result<Slot, Limit>
+    requires coef { unsigned_abs factor.now.coef ≤ MOST_SIZE }
+    requires some { factor.now.coef ≢ pos 0 }
+    requires whole { length factor.now.exps ≡ MOST_VARIABLES }
+    requires low { IsTrue (are_low factor.now.exps) }
+    requires live_q { IsLive (S.state s.old).lists q.0 }
+    requires live_sum { IsLive (S.state s.old).lists sum.0 }
+    requires q_descending { IsDescending MOST_VARIABLES (polynomial_of (list_at (S.state s.old).lists q.0)) }
+    requires q_bounded { IsTrue (are_bounded (polynomial_of (list_at (S.state s.old).lists q.0))) }
+    requires q_low { IsTrue (all_low (polynomial_of (list_at (S.state s.old).lists q.0))) }
+    requires sum_descending { IsDescending MOST_VARIABLES (polynomial_of (list_at (S.state s.old).lists sum.0)) }
+    requires sum_bounded { IsTrue (are_bounded (polynomial_of (list_at (S.state s.old).lists sum.0))) }
+    requires room { 2 + length (list_at (S.state s.old).lists q.0) + length (list_at (S.state s.old).lists q.0) + length (list_at (S.state s.old).lists sum.0) ≤ (S.state s.old).spare }
+    ensures { Outcome (given_up (S.state s.old) sum.0) (S.state s.new) result (bounded_row factor.now.exps factor.now.coef (polynomial_of (list_at (S.state s.old).lists q.0)) (polynomial_of (list_at (S.state s.old).lists sum.0))) }
+{
+    let Some(row) = multiple(s, factor, q) else {
+        s.free(sum);
+        return Err(Limit::Bound);
+    };
+    let outcome = sum_in(s, row, sum);
+    s.free(row);
+    s.free(sum);
+    outcome
+}
+
+/// The rows of a product whose degrees fit.
+pub fn mul_rows<S: TermStore>(s: &mut S, a: Poly, b: Poly) -> Result<Poly, Limit>
+    requires a { IsPoly (S.state s.old) a }
+    requires b { IsPoly (S.state s.old) b }
+    requires room { 32784 ≤ (S.state s.old).spare }
+    requires fit { degrees_fit (polynomial_at (S.state s.old) a) (polynomial_at (S.state s.old) b) ≡ true }
+    ensures { Answers (S.state s.old) (S.state s.new) result (bounded_product (polynomial_at (S.state s.old) a) (polynomial_at (S.state s.old) b)) }
+{
+    let count = s.len(a.slot);
+    let mut sum = s.fresh();
+    for i in 0..count {
+        let term = s.get(a.slot, i);
+        match add_row(s, &term, b.slot, sum) {
+            Ok(next) => sum = next,
+            Err(limit) => return Err(limit),
+        }
+    }
+    Ok(Poly { slot: sum })
+}
+
+/// The sum, or the limit that is met first.
+pub fn add<S: TermStore>(s: &mut S, a: Poly, b: Poly) -> Result<Poly, Limit>
+    requires a { IsPoly (S.state s.old) a }
+    requires b { IsPoly (S.state s.old) b }
+    requires room { 32784 ≤ (S.state s.old).spare }
+    ensures { Answers (S.state s.old) (S.state s.new) result (bounded_sum (polynomial_at (S.state s.old) a) (polynomial_at (S.state s.old) b)) }
+{
+    match sum_in(s, a.slot, b.slot) {
+        Ok(slot) => Ok(Poly { slot }),
+        Err(limit) => Err(limit),
+    }
+}
