@@ -5,3 +5,4 @@ pub mod Contents
 pub mod Places
 pub mod Same
 pub mod Standing
+pub mod Worked

@@ -4,6 +4,8 @@ pub mod Polynomial
 pub mod Content
 pub mod Zeros
 pub mod Standard
+pub mod Reduction
+pub mod Bounded
 pub mod Names
 -- how values are held
 pub mod Held

@@ -14,7 +14,11 @@ pub use laws::{
     evaluation_is_a_homomorphism, one_list_for_each_map, operations_are_the_usual_ones,
     primitive_parts_keep_zeros,
 };
-pub use limits::{MOST_DEGREE, MOST_SIZE, MOST_TERMS, MOST_VARIABLES};
+pub use limits::{
+    ARITH_UNITS, EXPAND_UNITS, LEAF_UNITS, Limit, MOST_CONCLUSIONS, MOST_CONDITIONS, MOST_DEGREE,
+    MOST_EQUATIONS, MOST_FUEL, MOST_HYPOTHESES, MOST_LETTERS, MOST_LOG_BYTES, MOST_SIZE,
+    MOST_TERMS, MOST_VARIABLES, POLY_UNITS, ROW_UNITS, STEP_UNITS,
+};
 pub use owned::OwnedPoly;
 pub use row::Row;
 pub use term::{Term, are_standard, compare_monomials};
