@@ -6,3 +6,13 @@ pub mod Places
 pub mod Same
 pub mod Standing
 pub mod Worked
+pub mod Rows
+pub mod Within
+pub mod Primitive
+pub mod Merge
+pub mod Multiple
+pub mod Parts
+pub mod Scaled
+pub mod Reductions
+pub mod Standards
+pub mod Division
