@@ -15,4 +15,8 @@ pub mod Parts
 pub mod Scaled
 pub mod Reductions
 pub mod Standards
+pub mod Front
+pub mod Classes
+pub mod Constants
+pub mod Over
 pub mod Division

@@ -7,7 +7,7 @@ use Rattle.std.proofs.lemmas.Int.{ints, unsigned_abs-mul}
 use Rattle.std.proofs.lemmas.Nat.Gcd.{IsGcd-from_zero, IsGcd-from_mod, same_from_IsGcd, mod-eq-zero_of_dvd, dvd_trans, dvd_refl}
 use Rattle.std.proofs.Math.Nat.{mul-add-mod_self_left, mod-eq_of_lt, mod-lt, mul-lt-mul_of_pos_left, mul_assoc, mul-div_cancel', div-one, eq_of_mul-eq-mul_left}
 use Prim.Native.Nat.{◌∣◌}
-use Rattle.poly_model.specs.Polynomial.{Polynomial}
+use Rattle.poly_model.specs.Polynomial.{Polynomial, IsDescending}
 use Rattle.poly_model.specs.Content.{gcd_within, gcd, coefficients_gcd, is_negative, begins_negative, signed_by, quotient_of, entries_divided, primitive_part}
 use Rattle.poly_model.proofs.Contents.{gcd-is}
 
@@ -76,3 +76,24 @@ divided_by_one ((es, negsuc a) ∷ p) = λ i. (es, neg_ℤ (pos (div-one (suc a)
 pub primitive_part-again : (p : Polynomial) → 0 < coefficients_gcd p → primitive_part (primitive_part p) ≡ primitive_part p
 primitive_part-again p some =
     (λ i. entries_divided (begins_not_negative (coefficients_gcd p) p i) (primitive_part-gcd p some i) (primitive_part p)) ∙ divided_by_one (primitive_part p)
+
+-- The coefficients of a list in order have a divisor above 0.
+divisor_some : (n : ℕ) (es : List ℕ) (c : ℤ) (p : Polynomial) → IsDescending n ((es, c) ∷ p) → 0 < coefficients_gcd ((es, c) ∷ p)
+divisor_some n es c p h = positive (unsigned_abs c) (coefficients_gcd ((es, c) ∷ p)) (some c h.1) (gcd-is (unsigned_abs c) (coefficients_gcd p)).0
+  where
+    some : (c : ℤ) → c ≢ pos 0 → 0 < unsigned_abs c
+    some (pos zero) n = absurd (n refl)
+    some (pos (suc k)) n = omega arith
+    some (negsuc k) n = omega arith
+
+    positive : (a g : ℕ) → 0 < a → g ∣ a → 0 < g
+    positive a zero lt d = absurd (omega (arith, mod-eq-zero_of_dvd 0 d))
+    positive a (suc g) lt d = omega arith
+
+pub coefficients-coprime : (n : ℕ) (p : Polynomial) → IsDescending n p → p ≢ [] → coefficients_gcd (primitive_part p) ≡ 1
+coefficients-coprime n [] h some = absurd (some refl)
+coefficients-coprime n ((es, c) ∷ p) h some = primitive_part-gcd ((es, c) ∷ p) (divisor_some n es c p h)
+
+pub own-primitive_part : (n : ℕ) (p : Polynomial) → IsDescending n p → primitive_part (primitive_part p) ≡ primitive_part p
+own-primitive_part n [] h = refl
+own-primitive_part n ((es, c) ∷ p) h = primitive_part-again ((es, c) ∷ p) (divisor_some n es c p h)

@@ -192,3 +192,71 @@ bounded_reduction-standard g f r hg hf is =
 
     parts-standard : (t : Polynomial) → is_standard t ≡ true → is_standard (parts_of t).1 ≡ true
     parts-standard t s = standard-of (primitive_part t) (primitive-within t (within-of t s))
+
+-- ---- the other terms, and products with a power that fit
+without-bounded : (i d : ℕ) (p : Polynomial) → are_bounded p ≡ true → are_bounded (without_degree i d p) ≡ true
+without-bounded i d [] b = refl
+without-bounded i d ((es, c) ∷ p) b =
+    let parts = and_parts (is_bounded c) (are_bounded p) b in
+    elim (get_or es i 0 == d) as (λ t. are_bounded (cond t (without_degree i d p) ((es, c) ∷ without_degree i d p)) ≡ true) [
+      | true ↦ without-bounded i d p parts.1
+      | false ↦ both_true parts.0 (without-bounded i d p parts.1)
+    ]
+
+without-low : (i d : ℕ) (p : Polynomial) → all_low p ≡ true → all_low (without_degree i d p) ≡ true
+without-low i d [] b = refl
+without-low i d ((es, c) ∷ p) b =
+    let parts = and_parts (are_low es) (all_low p) b in
+    elim (get_or es i 0 == d) as (λ t. all_low (cond t (without_degree i d p) ((es, c) ∷ without_degree i d p)) ≡ true) [
+      | true ↦ without-low i d p parts.1
+      | false ↦ both_true parts.0 (without-low i d p parts.1)
+    ]
+
+without-short : (i d : ℕ) (p : Polynomial) → length (without_degree i d p) ≤ length p
+without-short i d [] = omega arith
+without-short i d ((es, c) ∷ p) =
+    elim (get_or es i 0 == d) as (λ t. length (cond t (without_degree i d p) ((es, c) ∷ without_degree i d p)) ≤ suc (length p)) [
+      | true ↦ (let h = without-short i d p in omega (arith, h))
+      | false ↦ (let h = without-short i d p in omega (arith, h))
+    ]
+
+pub without-within : (i d : ℕ) (p : Polynomial) → Within p → Within (without_degree i d p)
+without-within i d p w = record {
+  descending = descending-without MOST_VARIABLES i d p w.descending;
+  bounded = without-bounded i d p w.bounded;
+  low = without-low i d p w.low;
+  short = shorter _ (length p) (without-short i d p) w.short;
+}
+
+pub tail-within : (p : Polynomial) → Within p → Within (tail_of p)
+tail-within p w = without-within (main_place p) (main_degree p) p w
+
+shifted-fit : (i k : ℕ) (p : Polynomial) → degree_at i p + k ≤ MOST_DEGREE → all_low p ≡ true → all_low (shifted i k p) ≡ true
+shifted-fit i k [] h b = refl
+shifted-fit i k ((es, c) ∷ p) h b =
+    let parts = and_parts (are_low es) (all_low p) b in
+    both_true (set-low es i (get_or es i 0 + k) parts.0 (omega (arith, h))) (shifted-fit i k p (omega (arith, h)) parts.1)
+
+pub shifted-within : (i k : ℕ) (p : Polynomial) → degree_at i p + k ≤ MOST_DEGREE → Within p → Within (shifted i k p)
+shifted-within i k p h w = record {
+  descending = descending-shifted MOST_VARIABLES i k p w.descending;
+  bounded = shifted-bounded i k p w.bounded;
+  low = shifted-fit i k p h w.low;
+  short = ap (λ n. nat_le n MOST_TERMS) (shifted-length i k p) ∙ w.short;
+}
+
+pub bounded_shift-is : (i k : ℕ) (p r : Polynomial) → bounded_shift i k p ≡ Ok r → (degree_at i p + k ≤ MOST_DEGREE) × (r ≡ shifted i k p)
+bounded_shift-is i k p r is =
+    elim (nat_le (degree_at i p + k) MOST_DEGREE) as (λ b. nat_le (degree_at i p + k) MOST_DEGREE ≡ b
+    → elim b as (λ _. Result Polynomial Limit) [ false ↦ Err Degree | true ↦ Ok (shifted i k p) ] ≡ Ok r → (degree_at i p + k ≤ MOST_DEGREE) × (r ≡ shifted i k p)) [
+      | false ↦ λ t e. absurd (cc)
+      | true ↦ λ t e. (leb-true _ MOST_DEGREE t, cc)
+    ] refl is
+
+pub bounded_shift-standard : (i k : ℕ) (p r : Polynomial) → is_standard p ≡ true → bounded_shift i k p ≡ Ok r → is_standard r ≡ true
+bounded_shift-standard i k p r s e =
+    let is = bounded_shift-is i k p r e in
+    ap is_standard is.1 ∙ standard-of (shifted i k p) (shifted-within i k p is.0 (within-of p s))
+
+pub bounded_difference-standard : (p q r : Polynomial) → is_standard p ≡ true → is_standard q ≡ true → bounded_difference p q ≡ Ok r → is_standard r ≡ true
+bounded_difference-standard p q r sp sq e = bounded_sum-standard p (poly_negative q) r sp (standard-of _ (negative-within q (within-of q sq))) e

@@ -11,8 +11,10 @@ mod vars;
 
 pub use domain::{Domain, Gaussian, Integers};
 pub use laws::{
+    bounded_results_are_the_usual_ones, bounded_results_are_within_the_limits, divisions_are_exact,
     evaluation_is_a_homomorphism, one_list_for_each_map, operations_are_the_usual_ones,
-    primitive_parts_keep_zeros,
+    operations_keep_to_their_variables, parts_make_the_polynomial, primitive_parts_are_primitive,
+    primitive_parts_keep_zeros, reductions_keep_zeros,
 };
 pub use limits::{
     ARITH_UNITS, EXPAND_UNITS, LEAF_UNITS, Limit, MOST_CONCLUSIONS, MOST_CONDITIONS, MOST_DEGREE,
