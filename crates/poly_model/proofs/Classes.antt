@@ -1,5 +1,5 @@
 -- Classes and degrees: the initial is of a lower class, and a class tells which variables occur.
-use Rattle.std.proofs.Common.{◌≡◌, ◌≢◌, ℕ, ◌≤◌, max, zero, suc, List, [], ◌∷◌, set, get_or, drop, refl, sym, ◌∙◌, ap, subst, arith, Bool, true, false, cond, inl, inr, ◌⊎◌, ◌&&◌}
+use Rattle.std.proofs.Common.{◌≡◌, ℕ, ◌≤◌, max, zero, suc, List, [], ◌∷◌, set, get_or, drop, refl, sym, ◌∙◌, ap, subst, arith, Bool, true, false, cond, inl, inr, ◌⊎◌}
 use Rattle.std.specs.Prelude.{◌==◌, if◌then◌else◌, nat_eq, nat_le}
 use Rattle.std.specs.List.{list_all}
 use Rattle.std.specs.Cmp.{both_ways}

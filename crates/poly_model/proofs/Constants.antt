@@ -1,16 +1,15 @@
 -- The values of coefficients, of other terms, of products with powers of a variable, and of constants.
-use Rattle.std.proofs.Common.{◌≡◌, ◌≢◌, ℕ, ◌+◌, ◌<◌, ◌≤◌, length, max, zero, suc, List, [], ◌∷◌, set, get_or, refl, sym, ◌∙◌, ap, subst, arith, Bool, true, false, cond, inl, inr, ◌⊎◌}
+use Rattle.std.proofs.Common.{◌≡◌, ◌≢◌, ℕ, ◌+◌, ◌<◌, length, zero, suc, List, [], ◌∷◌, set, get_or, refl, sym, ◌∙◌, ap, arith, true, false, cond}
 use Rattle.std.specs.Prelude.{pos, ◌==◌, if◌then◌else◌}
 use Rattle.std.specs.Ordering.{int_eq}
-use Rattle.std.proofs.lemmas.Bool.{and_parts, eqb-true, eqb-false, not-true, both_ways}
+use Rattle.std.proofs.lemmas.Bool.{and_parts, eqb-true, not-true, both_ways}
 use Rattle.std.proofs.lemmas.Bool.Decides.{Decides-int_eq}
 use Rattle.poly_model.specs.Domain.{Operations, IsDomain, integer_in}
 use Rattle.poly_model.specs.Ring as ring
 use Rattle.poly_model.specs.Values as values
 use Rattle.poly_model.specs.Polynomial.{Polynomial, IsDescending, power, monomial_at, value_at}
-use Rattle.poly_model.specs.Content.{entries_divided, begins_negative, coefficients_gcd}
 use Rattle.poly_model.proofs.Contents as contents
-use Rattle.poly_model.specs.Reduction.{degree_at, monomial_class, class_of, is_constant, number_of, is_zero, is_nonzero_constant, coefficient_at, without_degree, shifted, main_place, main_degree, initial_of, primitive_initial}
+use Rattle.poly_model.specs.Reduction.{monomial_class, class_of, is_constant, number_of, is_zero, is_nonzero_constant, coefficient_at, without_degree, shifted}
 
 module _ {M : Type 0} {o : Operations M} (L : IsDomain o) where
   one_power : (n : ℕ) → power o o.one n ≡ o.one

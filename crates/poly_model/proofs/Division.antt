@@ -1,6 +1,6 @@
 -- The identity of pseudo-division.
 use Rattle.std.proofs.Common.{◌≡◌, ◌≢◌, ℕ, zero, suc, refl, List, [], ◌∷◌, sym, ◌∙◌, ap}
-use Rattle.std.specs.Prelude.{ℤ, pos, ◌*ℤ◌}
+use Rattle.std.specs.Prelude.{pos}
 use Rattle.poly_model.specs.Domain.{Operations, IsCommutativeRing}
 use Rattle.poly_model.specs.Solve.{Var, Add, Mul, Neg, solve}
 use Rattle.poly_model.specs.Polynomial.{Polynomial, IsDescending, poly_sum, poly_product, poly_scaled, poly_constant, polynomial_operations, power}

@@ -3,8 +3,8 @@ use Rattle.std.proofs.Common.{◌≡◌, ◌≢◌, ℕ, zero, suc, refl, List, 
 use Rattle.std.specs.Prelude.{ℤ, pos, negsuc, ◌+ℤ◌}
 use Rattle.std.specs.declared.cmp.Ordering.TheVariants.{Less, Equal, Greater}
 use Rattle.poly_model.specs.Polynomial.{Polynomial, IsAbove, IsDescending, monomial_cmp, with_entry, add_entry, poly_sum}
-use Rattle.poly_model.specs.Values.{monomial_cmp-same}
-use Rattle.poly_model.proofs.Order.{monomial_cmp-self, monomial_cmp-flip, monomial_cmp-trans}
+use Rattle.poly_model.specs.Values.{monomial_cmp-same, monomial_cmp-self}
+use Rattle.poly_model.proofs.Order.{monomial_cmp-flip, monomial_cmp-trans}
 use Rattle.poly_model.proofs.Ordered.{above-lower, above-add_entry}
 
 pub with_some : (e : List ℕ) (c : ℤ) (p : Polynomial) → c ≢ pos 0 → with_entry e c p ≡ (e, c) ∷ p

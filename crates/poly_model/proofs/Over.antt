@@ -1,14 +1,13 @@
 -- What arithmetic gives has no other variables than its operands.
-use Rattle.std.proofs.Common.{◌≡◌, ℕ, ◌+◌, ◌-◌, ◌<◌, ◌≤◌, max, zero, suc, List, [], ◌∷◌, drop, get_or, set, refl, sym, ◌∙◌, ap, subst, arith, Bool, true, false, ◌&&◌, cond, inl, inr, ◌⊎◌}
-use Rattle.std.specs.Prelude.{ℤ, pos, negsuc, ◌+ℤ◌, ◌*ℤ◌, ◌==◌, if◌then◌else◌, nat_eq, nat_le}
+use Rattle.std.proofs.Common.{◌≡◌, ℕ, ◌+◌, ◌-◌, ◌<◌, ◌≤◌, zero, suc, List, [], ◌∷◌, drop, get_or, set, refl, sym, ◌∙◌, ap, arith, Bool, true, false, ◌&&◌, cond, inl, inr, ◌⊎◌}
+use Rattle.std.specs.Prelude.{ℤ, pos, negsuc, ◌+ℤ◌, ◌*ℤ◌, ◌==◌, nat_eq, nat_le}
 use Rattle.std.specs.List.{list_all}
-use Rattle.std.specs.Cmp.{both_ways}
 use Rattle.std.specs.Cmp.Derive.{both_true}
 use Rattle.std.proofs.lemmas.Bool.{and_parts, eqb-true, leb-true, le-leb}
 use Rattle.std.specs.declared.cmp.Ordering.TheVariants.{Less, Equal, Greater}
 use Rattle.poly_model.specs.Polynomial.{Polynomial, is_over, monomial_cmp, exponents_sum, with_entry, add_entry, add_multiple, poly_sum, poly_negative, poly_difference, poly_product}
 use Rattle.poly_model.specs.Content.{primitive_part, entries_divided, begins_negative, coefficients_gcd}
-use Rattle.poly_model.specs.Reduction.{degree_at, monomial_class, class_of, coefficient_at, without_degree, shifted, main_place, main_degree, initial_of, factor_of, cross_difference, reduction_of}
+use Rattle.poly_model.specs.Reduction.{degree_at, coefficient_at, without_degree, shifted, main_place, main_degree, initial_of, factor_of, cross_difference, reduction_of}
 
 -- The monomial has none but the first n variables.
 abbrev are_over : ℕ → List ℕ → Bool

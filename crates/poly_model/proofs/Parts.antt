@@ -1,6 +1,6 @@
 -- Coefficients of a power of a variable, other terms, and products with a power of a variable are in order and within the
 -- limits.
-use Rattle.std.proofs.Common.{◌≡◌, ℕ, ◌+◌, ◌<◌, ◌≤◌, zero, suc, refl, List, [], ◌∷◌, length, get_or, set, sym, ◌∙◌, ap, arith, Bool, true, false, cond}
+use Rattle.std.proofs.Common.{◌≡◌, ℕ, ◌+◌, ◌<◌, zero, suc, refl, List, [], ◌∷◌, get_or, set, sym, ◌∙◌, ap, arith, true, false, cond}
 use Rattle.std.specs.Prelude.{◌==◌}
 use Rattle.std.proofs.lemmas.Bool.{eqb-true}
 use Rattle.std.specs.Ordering.{nat_cmp, ordering_then}

@@ -1,9 +1,8 @@
 -- The coefficients of a primitive part have no common divisor but 1, and it is its own primitive part.
 use Rattle.std.proofs.Common.{◌≡◌, ◌≢◌, ℕ, ◌+◌, ◌*◌, ◌/◌, ◌%◌, ◌<◌, zero, suc, refl, List, [], ◌∷◌, sym, ◌∙◌, ap, subst, arith, Bool, true, false, nat_eq}
-use Rattle.std.specs.Prelude.{ℤ, pos, negsuc, ◌*ℤ◌, neg_ℤ, unsigned_abs}
+use Rattle.std.specs.Prelude.{ℤ, pos, negsuc, neg_ℤ, unsigned_abs}
 use Rattle.std.specs.Int.{IsGcd}
 use Rattle.std.proofs.lemmas.Bool.{eqb-true}
-use Rattle.std.proofs.lemmas.Int.{ints, unsigned_abs-mul}
 use Rattle.std.proofs.lemmas.Nat.Gcd.{IsGcd-from_zero, IsGcd-from_mod, same_from_IsGcd, mod-eq-zero_of_dvd, dvd_trans, dvd_refl}
 use Rattle.std.proofs.Math.Nat.{mul-add-mod_self_left, mod-eq_of_lt, mod-lt, mul-lt-mul_of_pos_left, mul_assoc, mul-div_cancel', div-one, eq_of_mul-eq-mul_left}
 use Prim.Native.Nat.{◌∣◌}

@@ -1,5 +1,5 @@
 -- A product row by row, in the order of the first factor's entries, is the product.
-use Rattle.std.proofs.Common.{◌≡◌, ℕ, refl, List, [], ◌∷◌, length, sym, ◌∙◌, ap, true, false}
+use Rattle.std.proofs.Common.{◌≡◌, ℕ, refl, List, [], ◌∷◌, sym, ◌∙◌, ap, true, false}
 use Rattle.std.specs.Prelude.{ℤ, ◌*ℤ◌, Result, Ok, Err}
 use Rattle.poly_model.specs.Domain.{Operations, IsCommutativeRing}
 use Rattle.poly_model.specs.Ring as ring

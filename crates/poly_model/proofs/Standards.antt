@@ -1,11 +1,10 @@
 -- What arithmetic gives of polynomials within the limits is within them: coefficients, products with powers of a variable,
 -- negatives, primitive parts and reductions.
-use Rattle.std.proofs.Common.{◌≡◌, ℕ, ◌+◌, ◌-◌, ◌≤◌, zero, suc, List, [], ◌∷◌, length, get_or, set, refl, sym, ◌∙◌, ap, subst, arith, Bool, true, false, ◌&&◌, cond}
+use Rattle.std.proofs.Common.{◌≡◌, ℕ, ◌+◌, ◌-◌, ◌≤◌, zero, suc, List, [], ◌∷◌, length, get_or, set, refl, ◌∙◌, ap, subst, arith, Bool, true, false, ◌&&◌, cond}
 use Rattle.std.specs.Prelude.{ℤ, pos, negsuc, neg_ℤ, ◌==◌, Result, Ok, Err, nat_le, unsigned_abs, ◌/◌}
 use Rattle.std.specs.Cmp.Derive.{both_true}
 use Rattle.std.proofs.Math.Nat.{div-le_self}
 use Rattle.std.proofs.lemmas.Bool.{and_parts, leb-true, le-leb}
-use Rattle.std.proofs.lemmas.Bool.Decides.{nat_tests}
 use Rattle.poly_model.specs.Polynomial.{Polynomial, poly_negative}
 use Rattle.poly_model.specs.Standard.{is_standard, are_low, is_bounded, are_bounded}
 use Rattle.poly_model.specs.Content.{primitive_part, entries_divided, begins_negative, coefficients_gcd, signed_by, quotient_of}
@@ -16,13 +15,9 @@ use Rattle.poly_model.specs.declared.limits.Limit.{Limit}
 use Rattle.poly_model.specs.declared.limits.Limit.TheVariants.{Degree}
 use Rattle.poly_model.proofs.Ordered.{descending-negative, descending-primitive_part}
 use Rattle.poly_model.proofs.Within.{Within, within-of, standard-of, all_low, bounded_product-standard, bounded_sum-standard}
+use Rattle.poly_model.proofs.Adding.{low-at}
 use Rattle.poly_model.proofs.Parts.{descending-part, descending-without, descending-shifted}
 use Rattle.poly_model.proofs.Reductions.{then-is}
-
-low-at : (es : List ℕ) (i : ℕ) → are_low es ≡ true → get_or es i 0 ≤ MOST_DEGREE
-low-at [] i low = omega arith
-low-at (e ∷ es) zero low = grind (arith, nat_tests)
-low-at (e ∷ es) (suc i) low = low-at es i (and_parts (nat_le e MOST_DEGREE) (are_low es) low).1
 
 -- ---- parts
 set-low : (es : List ℕ) (i k : ℕ) → are_low es ≡ true → k ≤ MOST_DEGREE → are_low (set es i k) ≡ true

@@ -1,9 +1,9 @@
 -- Small cases of the definitions, computed.
-use Rattle.std.specs.Prelude.{◌≡◌, ℕ, ℤ, pos, negsuc, List, [], ◌∷◌, Ok, Err, refl}
+use Rattle.std.specs.Prelude.{◌≡◌, ℕ, pos, negsuc, [], ◌∷◌, Ok, Err, refl}
 use Rattle.poly_model.specs.Polynomial.{Polynomial}
-use Rattle.poly_model.specs.Reduction.{class_of, main_place, main_degree, initial_of, tail_of, reduction_of}
-use Rattle.poly_model.specs.Bounded.{bounded_sum, bounded_product, bounded_shift, bounded_reduction}
-use Rattle.poly_model.specs.declared.limits.Limit.TheVariants.{Degree, Bound, Terms}
+use Rattle.poly_model.specs.Reduction.{class_of, initial_of, tail_of, reduction_of}
+use Rattle.poly_model.specs.Bounded.{bounded_product, bounded_shift, bounded_reduction}
+use Rattle.poly_model.specs.declared.limits.Limit.TheVariants.{Degree, Bound}
 use Rattle.poly_model.specs.declared.limits.TheConstants.{ARITH_UNITS, STEP_UNITS, ROW_UNITS, LEAF_UNITS, MOST_EQUATIONS, MOST_LOG_BYTES}
 
 -- u1*x4 - u1*x2 and 2*x4 - u3 in the variables u1, u2, u3, x1, x2, x3, x4

@@ -10,6 +10,7 @@ pub mod Division
 pub mod Names
 -- what the ghost members of the types cite of laws: a type may cite its own crate's specs alone
 pub mod Held
+pub mod Equality
 pub mod Ring
 pub mod Values
 pub mod Solve
