@@ -4,11 +4,7 @@ use Rattle.std.specs.Ordering.{nat_cmp, ordering_then}
 use Rattle.std.specs.Cmp.{nat_cmp_is, ranked}
 use Rattle.std.specs.declared.cmp.Ordering.TheVariants.{Less, Equal, Greater}
 use Rattle.poly_model.specs.Polynomial.{monomial_cmp, exponents_sum}
-use Rattle.poly_model.specs.Values.{monomial_cmp-same}
-
-pub monomial_cmp-self : (xs : List ℕ) → monomial_cmp xs xs ≡ Equal
-monomial_cmp-self [] = refl
-monomial_cmp-self (x ∷ xs) = ap (λ r. ordering_then r (nat_cmp x x)) (monomial_cmp-self xs) ∙ sym (nat_cmp_is x x Equal refl)
+use Rattle.poly_model.specs.Values.{monomial_cmp-same, monomial_cmp-self}
 
 pub monomial_cmp-flip : (xs ys : List ℕ) → monomial_cmp xs ys ≡ Less → monomial_cmp ys xs ≡ Greater
 monomial_cmp-flip [] [] e = absurd (cc)

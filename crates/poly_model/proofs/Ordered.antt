@@ -9,8 +9,8 @@ use Rattle.std.specs.declared.cmp.Ordering.TheVariants.{Less, Equal, Greater}
 use Rattle.poly_model.specs.Domain.{Operations, IsCommutativeRing, integers}
 use Rattle.poly_model.specs.Integers.{integers_ring}
 use Rattle.poly_model.specs.Polynomial.{IsAbove, IsDescending, at_monomial, coefficient_of, sum_over, poly_negative, poly_difference, poly_scaled, poly_constant, poly_variable, Polynomial, monomial_cmp, exponents_sum, with_entry, add_entry, poly_sum, add_multiple, poly_product}
-use Rattle.poly_model.specs.Values.{monomial_cmp-same}
-use Rattle.poly_model.proofs.Order.{monomial_cmp-self, monomial_cmp-flip, monomial_cmp-trans, exponents_sum-comm, exponents_sum-length}
+use Rattle.poly_model.specs.Values.{monomial_cmp-same, monomial_cmp-self}
+use Rattle.poly_model.proofs.Order.{monomial_cmp-flip, monomial_cmp-trans, exponents_sum-comm, exponents_sum-length}
 use Rattle.std.proofs.lemmas.List.{length-set}
 use Rattle.poly_model.specs.Content.{content, primitive_part}
 use Rattle.poly_model.proofs.Contents.{content-times-primitive_part}

@@ -4,10 +4,13 @@ pub mod Polynomial
 pub mod Content
 pub mod Zeros
 pub mod Standard
+pub mod Reduction
+pub mod Bounded
+pub mod Division
 pub mod Names
--- how values are held
+-- what the ghost members of the types cite of laws: a type may cite its own crate's specs alone
 pub mod Held
--- laws that the domains' members need
+pub mod Equality
 pub mod Ring
 pub mod Values
 pub mod Solve

@@ -1,5 +1,5 @@
 -- The lists of terms that are a polynomial within the limits.
-use Rattle.std.specs.Prelude.{ℕ, Bool, true, ◌&&◌, List, [], ◌∷◌, map, length, nat_lt, nat_le, nat_eq, unsigned_abs}
+use Rattle.std.specs.Prelude.{ℕ, ℤ, Bool, true, ◌&&◌, List, [], ◌∷◌, map, length, nat_lt, nat_le, nat_eq, unsigned_abs}
 use Rattle.std.specs.List.{list_all}
 use Rattle.std.specs.Ordering.{is_gt}
 use Rattle.poly_model.specs.Polynomial.{Entry, Polynomial, monomial_cmp}
@@ -18,9 +18,21 @@ polynomial_of = map entry_of
 abbrev pub are_low : List ℕ → Bool
 are_low = list_all (λ e. nat_le e MOST_DEGREE)
 
--- The coefficient is not 0 and within its size, there is an exponent for each variable, and none is too high.
+-- The size of a coefficient does not pass the greatest.
+abbrev pub is_bounded : ℤ → Bool
+is_bounded c = nat_le (unsigned_abs c) MOST_SIZE
+
+-- No coefficient passes the greatest size.
+abbrev pub are_bounded : Polynomial → Bool
+are_bounded = list_all (λ e. is_bounded e.1)
+
+-- There are at most the most terms.
+abbrev pub is_short : Polynomial → Bool
+is_short p = nat_le (length p) MOST_TERMS
+
+-- The coefficient is not 0 and bounded, there is an exponent for each variable, and none is too high.
 abbrev pub is_within : Entry → Bool
-is_within (es, c) = nat_eq (length es) MOST_VARIABLES && (nat_lt 0 (unsigned_abs c) && nat_le (unsigned_abs c) MOST_SIZE) && are_low es
+is_within (es, c) = nat_eq (length es) MOST_VARIABLES && (nat_lt 0 (unsigned_abs c) && is_bounded c) && are_low es
 
 -- The entry is above the first of those that follow.
 abbrev pub is_above : Entry → Polynomial → Bool
@@ -34,4 +46,4 @@ are_descending (e ∷ p) = is_within e && (is_above e p && are_descending p)
 
 -- A polynomial within the limits: descending, and not too long.
 abbrev pub is_standard : Polynomial → Bool
-is_standard p = nat_le (length p) MOST_TERMS && are_descending p
+is_standard p = is_short p && are_descending p

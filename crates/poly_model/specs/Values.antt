@@ -2,6 +2,7 @@
 use Rattle.std.proofs.Common.{◌≡◌, ℕ, ◌+◌, zero, suc, refl, List, [], ◌∷◌, replicate, set, get_or, ◌<◌, sym, ◌∙◌, ap, arith}
 use Rattle.std.specs.Prelude.{ℤ, pos, negsuc, ◌+ℤ◌, ◌*ℤ◌}
 use Rattle.std.specs.Ordering.{nat_cmp, ordering_then}
+use Rattle.std.specs.Cmp.{nat_cmp_is}
 use Rattle.std.specs.FinMap.{nat_cmp-IsAntisymmetric}
 use Rattle.std.specs.declared.cmp.Ordering.TheVariants.{Less, Equal, Greater}
 use Rattle.poly_model.specs.Domain.{Operations, IsCommutativeRing, integer_in}
@@ -18,6 +19,10 @@ monomial_cmp-same (a ∷ xs) (b ∷ ys) is =
       | Equal ↦ λ p e i. nat_cmp-IsAntisymmetric a b e i ∷ monomial_cmp-same xs ys p i
       | Greater ↦ λ p e. cc
     ] refl is
+
+pub monomial_cmp-self : (xs : List ℕ) → monomial_cmp xs xs ≡ Equal
+monomial_cmp-self [] = refl
+monomial_cmp-self (x ∷ xs) = ap (λ r. ordering_then r (nat_cmp x x)) (monomial_cmp-self xs) ∙ sym (nat_cmp_is x x Equal refl)
 
 module _ {M : Type 0} {o : Operations M} (L : IsCommutativeRing o) where
   abbrev v : Polynomial → List M → M

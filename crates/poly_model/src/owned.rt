@@ -1,5 +1,7 @@
 ghost use Rattle.std.specs.Prelude.{◌≡◌, ◌↔◌, IsTrue, IfOk, IfErr, false};
 ghost use Rattle.poly_model.specs.Standard.{polynomial_of, is_standard};
+ghost use Rattle.poly_model.specs.Reduction.{same};
+ghost use Rattle.poly_model.specs.Equality.{same-laws};
 
 use crate::term::{Term, are_standard};
 use std::alloc::{AllocError, Global};
@@ -23,6 +25,16 @@ impl Model for OwnedPoly {
     ghost invariant = { λ p. IsTrue (is_standard (polynomial_of p.terms.items)) };
 }
 
+impl PartialEq for OwnedPoly {
+    ghost eq = { same };
+
+    ghost laws = { same-laws };
+
+    fn eq(&self, other: &OwnedPoly) -> bool {
+        same_terms(&self.terms, &other.terms)
+    }
+}
+
 fn same_terms(a: &[Term], b: &[Term]) -> bool
     ensures { IsTrue result ↔ (a.now ≡ b.now) }
 {
@@ -33,8 +45,10 @@ impl OwnedPoly {
     /// The polynomial of these terms. The list is handed back exactly where it is not in descending order, has a
     /// coefficient 0 or passes a limit.
     pub fn from_terms(terms: Vec<Term>) -> Result<OwnedPoly, Vec<Term>>
-        ensures ok { IfOk result (λ p. IsTrue (is_standard (polynomial_of terms.items)) × (p ≡ polynomial_of terms.items)) }
-        ensures err { IfErr result (λ back. (is_standard (polynomial_of terms.items) ≡ false) × (back ≡ terms)) }
+        ensures ok { IfOk result (λ p. IsTrue (is_standard (polynomial_of terms.items)) × (p
+            ≡ polynomial_of terms.items)) }
+        ensures err { IfErr result (λ back. (is_standard (polynomial_of terms.items) ≡ false)
+            × (back ≡ terms)) }
     {
         if are_standard(&terms) {
             Ok(OwnedPoly { terms })
@@ -55,7 +69,7 @@ impl OwnedPoly {
     pub fn equals(&self, other: &OwnedPoly) -> bool
         ensures { IsTrue result ↔ (self.now ≡ other.now) }
     {
-        same_terms(&self.terms, &other.terms)
+        self == other
     }
 
     /// Another copy of the polynomial.

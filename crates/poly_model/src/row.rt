@@ -1,4 +1,5 @@
 ghost use Rattle.std.specs.Prelude.{◌≡◌, List};
+ghost use Rattle.std.specs.Cmp.Lexicographic.{pointwise, lists_per};
 
 use std::marker::Model;
 
@@ -14,6 +15,16 @@ impl<T> Model for Row<T> {
     ghost Value = { List T };
 
     ghost view = { λ row. row.items.items };
+}
+
+impl<T: PartialEq> PartialEq for Row<T> {
+    ghost eq = { pointwise T.eq };
+
+    ghost laws = { lists_per T.laws };
+
+    fn eq(&self, other: &Row<T>) -> bool {
+        self.items == other.items
+    }
 }
 
 impl<T> Row<T> {

@@ -1,5 +1,5 @@
 ghost use Rattle.std.specs.Prelude.{◌≡◌, ◌<◌, ◌≤◌, ◌↔◌, IsTrue, IfSome, IfNone, false, true, length, get_or, replicate};
-ghost use Rattle.poly_model.specs.Names.{are_variables, are_numbered};
+ghost use Rattle.poly_model.specs.Names.{number, are_variables, are_numbered};
 
 use crate::limits::MOST_VARIABLES;
 use std::marker::Model;
@@ -12,7 +12,7 @@ pub enum VarName {
 }
 
 /// The variables of a problem, from the least to the greatest. Contracts see the list of their names.
-#[derive(Clone, Copy, Debug)]
+#[derive(Clone, Copy, Debug, PartialEq)]
 pub struct Vars {
     names: [VarName; MOST_VARIABLES],
     len: u8,
@@ -31,15 +31,36 @@ impl Model for Vars {
 
     ghost invariant = { λ vars. Holds vars.names vars.len };
 
-    ghost inverse = { λ names. record { names = names ++ replicate (MOST_VARIABLES - length names) (U 0); len = length names } };
+    ghost inverse = { λ names. record {
+      names = names
+          ++ replicate (MOST_VARIABLES - length names) (U 0);
+      len = length names;
+    } };
 
-    ghost inverse_ok = { λ vars h i. record { names = filled_again vars.names vars.len h i; len = front_length vars.names vars.len h i } };
+    ghost inverse_ok = { λ vars h i. record {
+      names = filled_again vars.names vars.len h i;
+      len =
+          front_length vars.names vars.len h i;
+    } };
+}
+
+impl VarName {
+    /// The number of the variable in its kind.
+    pub fn number(self) -> u8
+        ensures { result ≡ number self }
+    {
+        match self {
+            VarName::U(n) => n,
+            VarName::X(n) => n,
+        }
+    }
 }
 
 impl Vars {
     /// The variables of these names. None exactly where there are too many, or a kind is not numbered from 1 in order.
     pub fn from_names(names: &[VarName]) -> Option<Vars>
-        ensures some { IfSome result (λ vars. IsTrue (are_variables names.now) × (vars ≡ names.now)) }
+        ensures some { IfSome result (λ vars. IsTrue (are_variables names.now) × (vars
+            ≡ names.now)) }
         ensures none { IfNone result (are_variables names.now ≡ false) }
     {
         if names.len() > MOST_VARIABLES || !are_numbered(names) {

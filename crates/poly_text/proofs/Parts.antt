@@ -8,7 +8,8 @@ use Rattle.poly_model.specs.Polynomial.{Polynomial}
 use Rattle.poly_model.specs.Standard.{entry_of, polynomial_of}
 use Rattle.poly_model.specs.declared.term.Term.{Term}
 use Rattle.poly_model.specs.declared.vars.VarName.{VarName}
-use Rattle.poly_text.specs.Text.{letter, number, joint_text, exponent_text, factor_text, factors_text, is_left_out, term_text, entry_text, terms_text, poly_text}
+use Rattle.poly_model.specs.Names.{number}
+use Rattle.poly_text.specs.Text.{letter, joint_text, exponent_text, factor_text, factors_text, is_left_out, term_text, entry_text, terms_text, poly_text}
 
 pub exponent_above : (e : ℕ) → e ≢ 1 → exponent_text e ≡ codes "^" ++ decimal e
 exponent_above e n = ap (λ t. cond t [] (codes "^" ++ decimal e)) (let q : (e == 1) ≡ false = grind (arith, nat_tests) in q)

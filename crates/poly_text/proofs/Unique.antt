@@ -7,7 +7,7 @@ use Rattle.std.proofs.lemmas.Bool.Decides.{nat_tests}
 use Rattle.poly_model.specs.Polynomial.{Entry, Polynomial, is_over}
 use Rattle.poly_model.specs.Content.{is_negative}
 use Rattle.poly_model.specs.Standard.{is_within, is_above, are_low, are_descending, is_standard}
-use Rattle.poly_model.specs.Names.{u_numbers, x_numbers, count_from, are_numbered, are_variables}
+use Rattle.poly_model.specs.Names.{is_parameter, is_dependent, numbers_of, count_from, are_numbered, are_variables}
 use Rattle.poly_model.specs.declared.vars.VarName.{VarName}
 use Rattle.poly_model.specs.declared.vars.VarName.TheVariants.{U, X}
 use Rattle.poly_model.specs.declared.limits.TheConstants.{MOST_VARIABLES, MOST_DEGREE, MOST_TERMS, MOST_SIZE}
@@ -18,30 +18,30 @@ use Rattle.poly_text.proofs.Factors.{ends, Named, Misses, FitExponents}
 use Rattle.poly_text.proofs.Entries.{spare, Fits, entry-complete}
 
 -- ---- names of a list of variables
-misses_u : (n k : ℕ) (names : List VarName) → n < k → count_from k (u_numbers names) ≡ true → Misses (U n) names
+misses_u : (n k : ℕ) (names : List VarName) → n < k → count_from k (numbers_of is_parameter names) ≡ true → Misses (U n) names
 misses_u n k [] below c = tt
 misses_u n k (U m ∷ names) below c =
-    let p = and_parts (nat_eq m k) (count_from (k + 1) (u_numbers names)) c in
+    let p = and_parts (nat_eq m k) (count_from (k + 1) (numbers_of is_parameter names)) c in
     let same = eqb-true m k p.0 in
     ((λ e. let h : n ≡ m = cc in absurd (omega (arith, h, same, below))), misses_u n (k + 1) names (omega (arith, below)) p.1)
 misses_u n k (X m ∷ names) below c = ((λ e. cc), misses_u n k names below c)
 
-misses_x : (n k : ℕ) (names : List VarName) → n < k → count_from k (x_numbers names) ≡ true → Misses (X n) names
+misses_x : (n k : ℕ) (names : List VarName) → n < k → count_from k (numbers_of is_dependent names) ≡ true → Misses (X n) names
 misses_x n k [] below c = tt
 misses_x n k (X m ∷ names) below c =
-    let p = and_parts (nat_eq m k) (count_from (k + 1) (x_numbers names)) c in
+    let p = and_parts (nat_eq m k) (count_from (k + 1) (numbers_of is_dependent names)) c in
     let same = eqb-true m k p.0 in
     ((λ e. let h : n ≡ m = cc in absurd (omega (arith, h, same, below))), misses_x n (k + 1) names (omega (arith, below)) p.1)
 misses_x n k (U m ∷ names) below c = ((λ e. cc), misses_x n k names below c)
 
-named_from : (u x : ℕ) (names : List VarName) → u + length names ≤ 256 → x + length names ≤ 256 → count_from u (u_numbers names) ≡ true → count_from x (x_numbers names) ≡ true → Named names
+named_from : (u x : ℕ) (names : List VarName) → u + length names ≤ 256 → x + length names ≤ 256 → count_from u (numbers_of is_parameter names) ≡ true → count_from x (numbers_of is_dependent names) ≡ true → Named names
 named_from u x [] a b c d = tt
 named_from u x (U m ∷ names) a b c d =
-    let p = and_parts (nat_eq m u) (count_from (u + 1) (u_numbers names)) c in
+    let p = and_parts (nat_eq m u) (count_from (u + 1) (numbers_of is_parameter names)) c in
     let same = eqb-true m u p.0 in
     (omega (arith, same, a), misses_u m (u + 1) names (omega (arith, same)) p.1, named_from (u + 1) x names (omega (arith, a)) (omega (arith, b)) p.1 d)
 named_from u x (X m ∷ names) a b c d =
-    let p = and_parts (nat_eq m x) (count_from (x + 1) (x_numbers names)) d in
+    let p = and_parts (nat_eq m x) (count_from (x + 1) (numbers_of is_dependent names)) d in
     let same = eqb-true m x p.0 in
     (omega (arith, same, b), misses_x m (x + 1) names (omega (arith, same)) p.1, named_from u (x + 1) names (omega (arith, a)) (omega (arith, b)) c p.1)
 
@@ -51,7 +51,7 @@ few names e = let p = (and_parts (nat_le (length names) MOST_VARIABLES) (are_num
 pub named : (names : List VarName) → are_variables names ≡ true → Named names
 named names e =
     let p = (and_parts (nat_le (length names) MOST_VARIABLES) (are_numbered names) e).1 in
-    let q = and_parts (count_from 1 (u_numbers names)) (count_from 1 (x_numbers names)) p in
+    let q = and_parts (count_from 1 (numbers_of is_parameter names)) (count_from 1 (numbers_of is_dependent names)) p in
     let f = few names e in
     named_from 1 1 names (omega (arith, f)) (omega (arith, f)) q.0 q.1
 

@@ -4,22 +4,24 @@ use Rattle.poly_model.specs.Polynomial.{Entry}
 use Rattle.poly_model.specs.Content.{signed_by}
 use Rattle.poly_model.specs.declared.vars.VarName.{VarName}
 use Rattle.poly_model.specs.declared.limits.TheConstants.{MOST_VARIABLES, MOST_DEGREE, MOST_SIZE}
-use Rattle.poly_text.specs.Text.{letter, number, is_left_out}
+use Rattle.poly_model.specs.Names.{number}
+use Rattle.poly_text.specs.Bytes.{digit_zero, digit_nine, blank, star, plus, minus, caret}
+use Rattle.poly_text.specs.Text.{letter, is_left_out}
 
 -- A decimal digit.
 abbrev pub is_digit : ℕ → Bool
-is_digit b = nat_le 48 b && nat_le b 57
+is_digit b = nat_le digit_zero b && nat_le b digit_nine
 
 -- The number that digits spell behind a number.
 abbrev pub number_from : ℕ → List ℕ → ℕ × List ℕ
 number_from n [] = (n, [])
-number_from n (b ∷ text) = if is_digit b then number_from (10 * n + (b - 48)) text else (n, b ∷ text)
+number_from n (b ∷ text) = if is_digit b then number_from (10 * n + (b - digit_zero)) text else (n, b ∷ text)
 
 -- A digit stands first, and no 0 before another digit.
 abbrev pub begins_number : List ℕ → Bool
 begins_number [] = false
 begins_number (b ∷ []) = is_digit b
-begins_number (b ∷ c ∷ text) = is_digit b && not (b == 48 && is_digit c)
+begins_number (b ∷ c ∷ text) = is_digit b && not (b == digit_zero && is_digit c)
 
 -- A number of at most so much.
 abbrev pub number_at : ℕ → List ℕ → Option (ℕ × List ℕ)
@@ -52,11 +54,11 @@ above_one (Some read) = if nat_lt 1 read.0 then Some read else None
 -- The exponent of a variable, which is 1 where none is written.
 abbrev pub exponent_at : List ℕ → Option (ℕ × List ℕ)
 exponent_at [] = Some (1, [])
-exponent_at (b ∷ text) = if b == 94 then above_one (number_at MOST_DEGREE text) else Some (1, b ∷ text)
+exponent_at (b ∷ text) = if b == caret then above_one (number_at MOST_DEGREE text) else Some (1, b ∷ text)
 
 -- What stands behind the `*` that joins a factor to what stands before.
 abbrev pub joint_at : Bool → List ℕ → Option (List ℕ)
-joint_at joined text = if joined then behind 42 text else Some text
+joint_at joined text = if joined then behind star text else Some text
 
 -- The variable behind what was read before, if that was read.
 abbrev pub name_behind : VarName → Option (List ℕ) → Option (List ℕ)
@@ -113,11 +115,12 @@ term_at names negative text =
 -- The sign of a term: whether it is negative.
 abbrev pub sign_at : Bool → List ℕ → Option (Bool × List ℕ)
 sign_at true [] = Some (false, [])
-sign_at true (b ∷ text) = if b == 45 then Some (true, text) else Some (false, b ∷ text)
+sign_at true (b ∷ text) = if b == minus then Some (true, text) else Some (false, b ∷ text)
 sign_at false [] = None
 sign_at false (a ∷ []) = None
 sign_at false (a ∷ b ∷ []) = None
-sign_at false (a ∷ b ∷ c ∷ text) = if a == 32 && c == 32 then (if b == 45 then Some (true, text) else (if b == 43 then Some (false, text) else None)) else None
+sign_at false (a ∷ b ∷ c ∷ text) =
+    if a == blank && c == blank then (if b == minus then Some (true, text) else (if b == plus then Some (false, text) else None)) else None
 
 -- The term behind its sign, if that was read.
 abbrev pub term_behind : List VarName → Option (Bool × List ℕ) → Option (Entry × List ℕ)

@@ -3,18 +3,19 @@ use Rattle.std.specs.Prelude.{ℕ, zero, suc, List, [], ◌∷◌, ◌++◌, Boo
 use Rattle.std.specs.List.{list_any}
 use Rattle.poly_model.specs.Polynomial.{Entry, Polynomial}
 use Rattle.poly_model.specs.Content.{is_negative}
+use Rattle.poly_model.specs.Names.{number}
+use Rattle.poly_text.specs.Bytes.{letter_u, letter_x}
 use Rattle.poly_model.specs.declared.vars.VarName.{VarName}
 use Rattle.poly_model.specs.declared.vars.VarName.TheVariants.{U, X}
 
 -- The byte of a variable's kind, `u` or `x`.
 abbrev pub letter : VarName → ℕ
-letter (U n) = 117
-letter (X n) = 120
+letter (U n) = letter_u
+letter (X n) = letter_x
 
--- The number of a variable in its kind.
-abbrev pub number : VarName → ℕ
-number (U n) = n
-number (X n) = n
+-- A variable: the letter of its kind and its number.
+abbrev pub variable_text : VarName → List ℕ
+variable_text name = letter name ∷ decimal (number name)
 
 -- An exponent, which is written above 1 alone.
 abbrev pub exponent_text : ℕ → List ℕ
@@ -22,7 +23,7 @@ exponent_text e = if e == 1 then [] else (codes "^" ++ decimal e)
 
 -- A variable with its exponent.
 abbrev pub factor_text : VarName → ℕ → List ℕ
-factor_text name e = letter name ∷ decimal (number name) ++ exponent_text e
+factor_text name e = variable_text name ++ exponent_text e
 
 -- A `*` behind something that it joins to what follows.
 abbrev pub joint_text : Bool → List ℕ

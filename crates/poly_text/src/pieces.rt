@@ -1,5 +1,5 @@
 ghost use Rattle.std.specs.Prelude.{◌≡◌, ◌<◌, ◌≤◌, ◌^◌, ℕ, List, Option, Some, None, MatchOption, IfSome};
-ghost use Rattle.poly_text.specs.Text.{letter, number, is_left_out};
+ghost use Rattle.poly_text.specs.Text.{letter};
 ghost use Rattle.poly_text.specs.Reading.{is_digit, number_from, begins_number, number_at, behind, name_at, exponent_at, joint_at, factor_at};
 
 use poly_model::{MOST_DEGREE, VarName};
@@ -22,7 +22,8 @@ fn begins_number(text: &[u8]) -> bool
 
 /// The text behind a byte, if it stands first.
 fn behind(byte: u8, text: &[u8]) -> Option<&[u8]>
-    ensures { MatchOption result (behind byte text.now ≡ None) (λ rest. behind byte text.now ≡ Some rest.now) }
+    ensures { MatchOption result (behind byte text.now ≡ None) (λ rest. behind byte text.now
+        ≡ Some rest.now) }
 {
     match text {
         [b, rest @ ..] if *b == byte => Some(rest),
@@ -34,7 +35,8 @@ fn behind(byte: u8, text: &[u8]) -> Option<&[u8]>
 pub fn read_number(most: u128, text: &[u8]) -> Option<(u128, &[u8])>
     requires { most < 2 ^ 127 }
     ensures within { IfSome result (λ read. read.0 ≤ most) }
-    ensures read { MatchOption result (number_at most text.now ≡ None) (λ read. number_at most text.now ≡ Some (read.0, read.1.now)) }
+    ensures read { MatchOption result (number_at most text.now
+        ≡ None) (λ read. number_at most text.now ≡ Some (read.0, read.1.now)) }
 {
     if !begins_number(text) {
         return None;
@@ -63,22 +65,14 @@ fn letter(name: VarName) -> u8
     }
 }
 
-pub fn number(name: VarName) -> u8
-    ensures { result ≡ number name }
-{
-    match name {
-        VarName::U(n) => n,
-        VarName::X(n) => n,
-    }
-}
-
 /// The text behind the variable of this name, if it stands first.
 fn read_name(name: VarName, text: &[u8]) -> Option<&[u8]>
-    ensures { MatchOption result (name_at name text.now ≡ None) (λ rest. name_at name text.now ≡ Some rest.now) }
+    ensures { MatchOption result (name_at name text.now ≡ None) (λ rest. name_at name text.now
+        ≡ Some rest.now) }
 {
     let digits = behind(letter(name), text)?;
     let (n, rest) = read_number(255, digits)?;
-    if n == number(name) as u128 {
+    if n == name.number() as u128 {
         Some(rest)
     } else {
         None
@@ -87,7 +81,8 @@ fn read_name(name: VarName, text: &[u8]) -> Option<&[u8]>
 
 /// The exponent that stands first, 1 where none is written, and the text behind it.
 fn read_exponent(text: &[u8]) -> Option<(u8, &[u8])>
-    ensures { MatchOption result (exponent_at text.now ≡ None) (λ read. exponent_at text.now ≡ Some (read.0, read.1.now)) }
+    ensures { MatchOption result (exponent_at text.now ≡ None) (λ read. exponent_at text.now
+        ≡ Some (read.0, read.1.now)) }
 {
     let [b'^', digits @ ..] = text else {
         return Some((1, text));
@@ -98,7 +93,8 @@ fn read_exponent(text: &[u8]) -> Option<(u8, &[u8])>
 
 /// The exponent of the variable of this name, if that stands first, and the text behind it.
 pub fn read_factor(name: VarName, joined: bool, text: &[u8]) -> Option<(u8, &[u8])>
-    ensures { MatchOption result (factor_at name joined text.now ≡ None) (λ read. factor_at name joined text.now ≡ Some (read.0, read.1.now)) }
+    ensures { MatchOption result (factor_at name joined text.now
+        ≡ None) (λ read. factor_at name joined text.now ≡ Some (read.0, read.1.now)) }
 {
     let body = if joined { behind(b'*', text)? } else { text };
     read_exponent(read_name(name, body)?)

@@ -4,9 +4,8 @@ ghost use Rattle.desk_io.specs.Bytes.{Writes};
 ghost use Rattle.poly_model.specs.Content.{is_negative};
 ghost use Rattle.poly_model.specs.Polynomial.{is_over};
 ghost use Rattle.poly_model.specs.Standard.{entry_of};
-ghost use Rattle.poly_text.specs.Text.{letter, joint_text, exponent_text, factor_text, factors_text, term_text, sign_text, entry_text, poly_text};
+ghost use Rattle.poly_text.specs.Text.{letter, variable_text, joint_text, exponent_text, factor_text, factors_text, term_text, sign_text, entry_text, poly_text};
 
-use crate::pieces::number;
 use crate::terms::is_left_out;
 use desk_io::{Failed, Pen, Sink};
 use itoa::Buffer;
@@ -35,20 +34,35 @@ fn sign(first: bool, negative: bool) -> &'static [u8]
     }
 }
 
-/// What stands before a variable's number.
-fn joint_and_letter(joined: bool, name: VarName) -> &'static [u8]
-    ensures { result.now ≡ joint_text joined ++ letter name ∷ [] }
+fn letter(name: VarName) -> &'static [u8]
+    ensures { result.now ≡ letter name ∷ [] }
 {
-    match (joined, name) {
-        (true, VarName::U(_)) => b"*u",
-        (true, VarName::X(_)) => b"*x",
-        (false, VarName::U(_)) => b"u",
-        (false, VarName::X(_)) => b"x",
+    match name {
+        VarName::U(_) => b"u",
+        VarName::X(_) => b"x",
     }
 }
 
+fn joint(joined: bool) -> &'static [u8]
+    ensures { result.now ≡ joint_text joined }
+{
+    if joined { b"*" } else { b"" }
+}
+
+/// Writes the text of a variable: the letter of its kind and its number.
+pub fn write_variable<S: Sink>(name: VarName, pen: &mut Pen, sink: &mut S) -> Result<(), Failed>
+    ensures bytes { Writes (S.written sink.old) (S.written sink.new) pen.old pen.new result
+        (variable_text name) }
+    ensures cause { HasCause (S.faults sink.old) (S.faults sink.new) result }
+{
+    let mut buffer = Buffer::new();
+    pen.push(sink, letter(name))?;
+    pen.push(sink, buffer.format(name.number()).as_bytes())
+}
+
 fn print_exponent<S: Sink>(e: u8, pen: &mut Pen, sink: &mut S) -> Result<(), Failed>
-    ensures bytes { Writes (S.written sink.old) (S.written sink.new) pen.old pen.new result (exponent_text e) }
+    ensures bytes { Writes (S.written sink.old) (S.written sink.new) pen.old pen.new result
+        (exponent_text e) }
     ensures cause { HasCause (S.faults sink.old) (S.faults sink.new) result }
 {
     if e == 1 {
@@ -66,12 +80,12 @@ fn print_factor<S: Sink>(
     pen: &mut Pen,
     sink: &mut S,
 ) -> Result<(), Failed>
-    ensures bytes { Writes (S.written sink.old) (S.written sink.new) pen.old pen.new result (joint_text joined ++ factor_text name e) }
+    ensures bytes { Writes (S.written sink.old) (S.written sink.new) pen.old pen.new result
+        (joint_text joined ++ factor_text name e) }
     ensures cause { HasCause (S.faults sink.old) (S.faults sink.new) result }
 {
-    let mut buffer = Buffer::new();
-    pen.push(sink, joint_and_letter(joined, name))?;
-    pen.push(sink, buffer.format(number(name)).as_bytes())?;
+    pen.push(sink, joint(joined))?;
+    write_variable(name, pen, sink)?;
     print_exponent(e, pen, sink)
 }
 
@@ -82,7 +96,8 @@ fn print_factors<S: Sink>(
     pen: &mut Pen,
     sink: &mut S,
 ) -> Result<(), Failed>
-    ensures bytes { Writes (S.written sink.old) (S.written sink.new) pen.old pen.new result (factors_text joined vars.now exps.now) }
+    ensures bytes { Writes (S.written sink.old) (S.written sink.new) pen.old pen.new result
+        (factors_text joined vars.now exps.now) }
     ensures cause { HasCause (S.faults sink.old) (S.faults sink.new) result }
 {
     let mut joined = joined;
@@ -98,7 +113,8 @@ fn print_factors<S: Sink>(
 }
 
 fn print_size<S: Sink>(size: u128, pen: &mut Pen, sink: &mut S) -> Result<(), Failed>
-    ensures bytes { Writes (S.written sink.old) (S.written sink.new) pen.old pen.new result (decimal size) }
+    ensures bytes { Writes (S.written sink.old) (S.written sink.new) pen.old pen.new result
+        (decimal size) }
     ensures cause { HasCause (S.faults sink.old) (S.faults sink.new) result }
 {
     let mut buffer = Buffer::new();
@@ -106,7 +122,8 @@ fn print_size<S: Sink>(size: u128, pen: &mut Pen, sink: &mut S) -> Result<(), Fa
 }
 
 fn print_term<S: Sink>(term: &Term, vars: &Vars, pen: &mut Pen, sink: &mut S) -> Result<(), Failed>
-    ensures bytes { Writes (S.written sink.old) (S.written sink.new) pen.old pen.new result (term_text vars.now term.now.exps (unsigned_abs term.now.coef)) }
+    ensures bytes { Writes (S.written sink.old) (S.written sink.new) pen.old pen.new result
+        (term_text vars.now term.now.exps (unsigned_abs term.now.coef)) }
     ensures cause { HasCause (S.faults sink.old) (S.faults sink.new) result }
 {
     let size = size(term);
@@ -124,7 +141,8 @@ fn print_entry<S: Sink>(
     pen: &mut Pen,
     sink: &mut S,
 ) -> Result<(), Failed>
-    ensures bytes { Writes (S.written sink.old) (S.written sink.new) pen.old pen.new result (entry_text first vars.now (entry_of term.now)) }
+    ensures bytes { Writes (S.written sink.old) (S.written sink.new) pen.old pen.new result
+        (entry_text first vars.now (entry_of term.now)) }
     ensures cause { HasCause (S.faults sink.old) (S.faults sink.new) result }
 {
     pen.push(sink, sign(first, is_negative(term)))?;
@@ -139,7 +157,8 @@ pub fn print_poly<S: Sink>(
     sink: &mut S,
 ) -> Result<(), Failed>
     requires { IsTrue (is_over (length vars.now) p.now) }
-    ensures bytes { Writes (S.written sink.old) (S.written sink.new) pen.old pen.new result (poly_text vars.now p.now) }
+    ensures bytes { Writes (S.written sink.old) (S.written sink.new) pen.old pen.new result
+        (poly_text vars.now p.now) }
     ensures cause { HasCause (S.faults sink.old) (S.faults sink.new) result }
 {
     let terms = p.terms();

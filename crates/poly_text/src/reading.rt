@@ -18,10 +18,14 @@ fn same_bytes(a: &[u8], b: &[u8]) -> bool
 /// The terms of a text that is not `0`.
 fn read_terms(alloc: Global, text: &[u8], vars: &Vars) -> Result<Vec<Term>, PolyFault>
     requires { IsTrue (are_variables vars.now) }
-    ensures spells { IfOk result (λ terms. IsTrue (is_over (length vars.now) (polynomial_of terms.items)) × (text.now ≡ terms_text true vars.now (polynomial_of terms.items))) }
-    ensures only { IfOk result (λ terms. (p : Polynomial) → IsTrue (is_standard p) → IsTrue (is_over (length vars.now) p)
+    ensures spells { IfOk result (λ terms. IsTrue (is_over (length vars.now) (polynomial_of
+        terms.items)) × (text.now ≡ terms_text true vars.now (polynomial_of terms.items))) }
+    ensures only { IfOk result (λ terms. (p : Polynomial) → IsTrue (is_standard p)
+        → IsTrue (is_over (length vars.now) p)
         → text.now ≡ terms_text true vars.now p → p ≡ polynomial_of terms.items) }
-    ensures refuses { IsErrOf result PolyFault.BadPoly → (p : Polynomial) → IsTrue (is_standard p) → IsTrue (is_over (length vars.now) p) → text.now ≢ terms_text true vars.now p }
+    ensures refuses { IsErrOf result PolyFault.BadPoly → (p : Polynomial)
+        → IsTrue (is_standard p) → IsTrue (is_over (length vars.now) p)
+        → text.now ≢ terms_text true vars.now p }
 {
     let mut terms = Vec::new(alloc);
     let mut rest = text;
@@ -43,10 +47,14 @@ fn read_terms(alloc: Global, text: &[u8], vars: &Vars) -> Result<Vec<Term>, Poly
 /// The terms of a text.
 fn read_list(alloc: Global, text: &[u8], vars: &Vars) -> Result<Vec<Term>, PolyFault>
     requires { IsTrue (are_variables vars.now) }
-    ensures spells { IfOk result (λ terms. IsTrue (is_over (length vars.now) (polynomial_of terms.items)) × (text.now ≡ poly_text vars.now (polynomial_of terms.items))) }
-    ensures only { IfOk result (λ terms. (p : Polynomial) → IsTrue (is_standard p) → IsTrue (is_over (length vars.now) p)
+    ensures spells { IfOk result (λ terms. IsTrue (is_over (length vars.now) (polynomial_of
+        terms.items)) × (text.now ≡ poly_text vars.now (polynomial_of terms.items))) }
+    ensures only { IfOk result (λ terms. (p : Polynomial) → IsTrue (is_standard p)
+        → IsTrue (is_over (length vars.now) p)
         → text.now ≡ poly_text vars.now p → p ≡ polynomial_of terms.items) }
-    ensures refuses { IsErrOf result PolyFault.BadPoly → (p : Polynomial) → IsTrue (is_standard p) → IsTrue (is_over (length vars.now) p) → text.now ≢ poly_text vars.now p }
+    ensures refuses { IsErrOf result PolyFault.BadPoly → (p : Polynomial)
+        → IsTrue (is_standard p) → IsTrue (is_over (length vars.now) p)
+        → text.now ≢ poly_text vars.now p }
 {
     if text.is_empty() {
         return Err(PolyFault::BadPoly);
@@ -59,9 +67,14 @@ fn read_list(alloc: Global, text: &[u8], vars: &Vars) -> Result<Vec<Term>, PolyF
 
 /// The polynomial that a text spells over these variables.
 pub fn read_poly(alloc: Global, text: &[u8], vars: &Vars) -> Result<OwnedPoly, PolyFault>
-    ensures reads { IfOk result (λ p. IsTrue (is_standard p) × IsTrue (is_over (length vars.now) p) × (text.now ≡ poly_text vars.now p)) }
-    ensures only { (p : Polynomial) → IsTrue (is_standard p) → IsTrue (is_over (length vars.now) p) → text.now ≡ poly_text vars.now p → IfOk result (λ q. q ≡ p) }
-    ensures refuses { IsErrOf result PolyFault.BadPoly → (p : Polynomial) → IsTrue (is_standard p) → IsTrue (is_over (length vars.now) p) → text.now ≢ poly_text vars.now p }
+    ensures reads { IfOk result (λ p. IsTrue (is_standard p)
+        × IsTrue (is_over (length vars.now) p) × (text.now ≡ poly_text vars.now p)) }
+    ensures only { (p : Polynomial) → IsTrue (is_standard p)
+        → IsTrue (is_over (length vars.now) p) → text.now ≡ poly_text vars.now p
+        → IfOk result (λ q. q ≡ p) }
+    ensures refuses { IsErrOf result PolyFault.BadPoly → (p : Polynomial)
+        → IsTrue (is_standard p) → IsTrue (is_over (length vars.now) p)
+        → text.now ≢ poly_text vars.now p }
 {
     prove!(vars.len() <= MOST_VARIABLES);
     match OwnedPoly::from_terms(read_list(alloc, text, vars)?) {

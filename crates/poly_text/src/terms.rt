@@ -23,7 +23,8 @@ pub fn is_left_out(size: u128, exps: &[u8; MOST_VARIABLES]) -> bool
 
 /// The exponents of all variables as the text begins, and the text behind their factors.
 fn read_factors<'a>(vars: &Vars, joined: bool, text: &'a [u8]) -> ([u8; MOST_VARIABLES], &'a [u8])
-    ensures { (result.0, result.1.now) ≡ factors_at (MOST_VARIABLES - length vars.now) joined vars.now text.now }
+    ensures { (result.0, result.1.now)
+        ≡ factors_at (MOST_VARIABLES - length vars.now) joined vars.now text.now }
 {
     let mut exps = [0; MOST_VARIABLES];
     let mut joined = joined;
@@ -52,7 +53,8 @@ fn signed(negative: bool, size: u128) -> i128
 
 /// The term that stands first, behind its sign, and the text behind it.
 fn read_term<'a>(vars: &Vars, negative: bool, text: &'a [u8]) -> Option<(Term, &'a [u8])>
-    ensures { MatchOption result (term_at vars.now negative text.now ≡ None) (λ read. term_at vars.now negative text.now ≡ Some (entry_of read.0, read.1.now)) }
+    ensures { MatchOption result (term_at vars.now negative text.now
+        ≡ None) (λ read. term_at vars.now negative text.now ≡ Some (entry_of read.0, read.1.now)) }
 {
     let (written, size, behind) = match read_number(MOST_SIZE, text) {
         Some((size, behind)) => (true, size, behind),
@@ -68,7 +70,8 @@ fn read_term<'a>(vars: &Vars, negative: bool, text: &'a [u8]) -> Option<(Term, &
 
 /// The sign of a term, true for a negative one, and the text behind it.
 fn read_sign(first: bool, text: &[u8]) -> Option<(bool, &[u8])>
-    ensures { MatchOption result (sign_at first text.now ≡ None) (λ read. sign_at first text.now ≡ Some (read.0, read.1.now)) }
+    ensures { MatchOption result (sign_at first text.now ≡ None) (λ read. sign_at first text.now
+        ≡ Some (read.0, read.1.now)) }
 {
     if first {
         return match text {
@@ -85,7 +88,8 @@ fn read_sign(first: bool, text: &[u8]) -> Option<(bool, &[u8])>
 
 /// The term that stands first, with its sign, and the text behind it.
 pub fn read_entry<'a>(first: bool, vars: &Vars, text: &'a [u8]) -> Option<(Term, &'a [u8])>
-    ensures { MatchOption result (entry_at first vars.now text.now ≡ None) (λ read. entry_at first vars.now text.now ≡ Some (entry_of read.0, read.1.now)) }
+    ensures { MatchOption result (entry_at first vars.now text.now
+        ≡ None) (λ read. entry_at first vars.now text.now ≡ Some (entry_of read.0, read.1.now)) }
 {
     let (negative, rest) = read_sign(first, text)?;
     read_term(vars, negative, rest)

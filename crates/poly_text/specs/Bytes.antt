@@ -1,0 +1,29 @@
+-- The bytes that a polynomial's text is made of.
+use Rattle.std.specs.Prelude.{ℕ}
+
+abbrev pub letter_u : ℕ
+letter_u = 117
+
+abbrev pub letter_x : ℕ
+letter_x = 120
+
+abbrev pub digit_zero : ℕ
+digit_zero = 48
+
+abbrev pub digit_nine : ℕ
+digit_nine = 57
+
+abbrev pub blank : ℕ
+blank = 32
+
+abbrev pub star : ℕ
+star = 42
+
+abbrev pub plus : ℕ
+plus = 43
+
+abbrev pub minus : ℕ
+minus = 45
+
+abbrev pub caret : ℕ
+caret = 94
