@@ -1,3 +1,4 @@
 pub mod Nearest
+pub mod Rounding
 pub mod Roots
 pub mod Sizes

@@ -33,7 +33,8 @@ nearest_is_near n d h =
 above : (a b k : ℕ) → a < b → a * k + k ≤ b * k
 above a b k lt = omega (arith, mul-le-mul_left {m = suc a} {n = b} k lt)
 
-apart : (q p d : ℤ) → pos 0 <ℤ d → q <ℤ p → (q *ℤ d +ℤ d) ≤ℤ (p *ℤ d)
+-- a greater number is greater by at least one divisor
+pub apart : (q p d : ℤ) → pos 0 <ℤ d → q <ℤ p → (q *ℤ d +ℤ d) ≤ℤ (p *ℤ d)
 apart (pos a) (pos b) (pos k) h lt = omega (arith, ints, above a b k (omega (arith, ints, lt)))
 apart (negsuc a) (pos b) (pos k) h lt = omega (arith, ints)
 apart (pos a) (negsuc b) (pos k) h lt = absurd (omega (arith, ints, lt))

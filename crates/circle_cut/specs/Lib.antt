@@ -1,0 +1,5 @@
+pub mod Vectors
+pub mod Places
+pub mod Lines
+pub mod Cuts
+pub mod Sizes
