@@ -103,5 +103,6 @@ rounded-alike p q hp hq s = λ i. record { x = nearest-alike p.x p.d q.x q.d hp 
 
 pub ends-are-one : EndsAreOne
 ends-are-one a l p q r s h k = (
-    rounded-alike p r h.first.positive k.first.positive (anti p r (h.between r k.first).0 (k.between p h.first).0),
-    rounded-alike q s h.last.positive k.last.positive (anti q s (k.between q h.last).1 (h.between s k.last).1))
+  rounded-alike p r h.first.positive k.first.positive (anti p r (h.between r k.first).0 (k.between p h.first).0),
+  rounded-alike q s h.last.positive k.last.positive (anti q s (k.between q h.last).1 (h.between s k.last).1),
+)

@@ -34,24 +34,30 @@ zero-or (negsuc a) p = absurd (omega (arith, ints, p))
 -- ---- names for `solve`
 abbrev M : Expression
 M = Var 0
+
 abbrev N : Expression
 N = Var 1
+
 abbrev C : Expression
 C = Var 2
+
 abbrev W : Expression
 W = Var 3
+
 abbrev H : Expression
 H = Var 4
+
 abbrev X : Expression
 X = Var 5
+
 abbrev Y : Expression
 Y = Var 6
+
 abbrev D : Expression
 D = Var 7
 
 abbrev pub less : Expression → Expression → Expression
 less a b = Add a (Neg b)
-
 
 -- ---- differences as products
 
@@ -73,13 +79,11 @@ gap a b p = omega (arith, ints, p)
 pub gap-lt : (a b : ℤ) → a <ℤ b → pos 0 <ℤ (b -ℤ a)
 gap-lt a b p = omega (arith, ints, p)
 
-
 too-much : (t u v e : ℤ) → pos 0 <ℤ t → pos 0 ≤ℤ u → pos 0 ≤ℤ v → t +ℤ u +ℤ v ≡ neg_ℤ e → e ≡ pos 0 → ⊥
 too-much t u v e p q r sum z = omega (arith, ints, p, q, r, sum, z)
 
 too-much' : (t u v e : ℤ) → pos 0 ≤ℤ t → pos 0 <ℤ u → pos 0 ≤ℤ v → t +ℤ u +ℤ v ≡ neg_ℤ e → e ≡ pos 0 → ⊥
 too-much' t u v e p q r sum z = omega (arith, ints, p, q, r, sum, z)
-
 
 pub le-true : (a b : ℤ) → int_le a b ≡ true → a ≤ℤ b
 le-true a b e = grind (arith, ints)
@@ -92,7 +96,6 @@ lt-true a b e = grind (arith, ints)
 
 pub lt-false : (a b : ℤ) → int_lt a b ≡ false → b ≤ℤ a
 lt-false a b e = grind (arith, ints)
-
 
 pub neg-times : (a b : ℤ) → neg_ℤ a *ℤ b ≡ neg_ℤ (a *ℤ b)
 neg-times a b = solve integers_ring (a ∷ b ∷ []) (Mul (Neg (Var 0)) (Var 1)) (Neg (Mul (Var 0) (Var 1))) refl
@@ -217,7 +220,6 @@ module _ (a : Area) (m n c : ℤ) (s : Sloping a m n) where
   module _ (r : Exact) (k : IsCommon a (line m n c) r) where
     gone : away m n c a.w a.h r.x r.y r.d ≡ pos 0
     gone = off _ _ k.on
-
 
     -- no common place is left of the left end
     left-first : (pos 0 <ℤ r.x) ⊎ (r.x ≡ pos 0) → NotRight (left-end n c) r

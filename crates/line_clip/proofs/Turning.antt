@@ -260,7 +260,7 @@ module _ (a : Area) (pw : pos 0 <ℤ a.w) (ph : pos 0 <ℤ a.h) where
 
   part-is : (n1 n2 c : ℤ) → IsSomeLine n1 n2 → (b : Bool) → int_eq n2 (pos 0) ≡ b
       → IsPart a (line n1 n2 c) (cond b (cond (int_lt n1 (pos 0)) (upright a (neg_ℤ n1) (neg_ℤ c)) (upright a n1 c))
-          (cond (int_lt n2 (pos 0)) (sloped a (neg_ℤ n1) (neg_ℤ n2) (neg_ℤ c)) (sloped a n1 n2 c)))
+      (cond (int_lt n2 (pos 0)) (sloped a (neg_ℤ n1) (neg_ℤ n2) (neg_ℤ c)) (sloped a n1 n2 c)))
   part-is n1 n2 c (inl some) true p =
       subst (λ z. IsPart a (line n1 z c) (cond (int_lt n1 (pos 0)) (upright a (neg_ℤ n1) (neg_ℤ c)) (upright a n1 c))) (sym (eq-true n2 (pos 0) p)) (steep-is n1 c some (int_lt n1 (pos 0)) refl)
   part-is n1 n2 c (inr some) true p = absurd (some (eq-true n2 (pos 0) p))

@@ -47,7 +47,14 @@ fn upright(a: &Area, n: Whole, c: Whole) -> Option<(Exact, Exact)>
     let zero = Whole::new(0);
     if zero.at_most(c) && c.at_most(a.w.times::<MOST_TICKS, MOST_NORMAL>(n)) {
         let top = a.h.times::<MOST_TICKS, MOST_NORMAL>(n);
-        return Some((Exact { x: c, y: zero, d: n }, Exact { x: c, y: top, d: n }));
+        return Some((
+            Exact {
+                x: c,
+                y: zero,
+                d: n,
+            },
+            Exact { x: c, y: top, d: n },
+        ));
     }
     None
 }
@@ -63,7 +70,18 @@ fn level(a: &Area, n: Whole, c: Whole) -> Option<(Exact, Exact)>
     let zero = Whole::new(0);
     if zero.at_most(c) && c.at_most(a.h.times::<MOST_TICKS, MOST_NORMAL>(n)) {
         let right = a.w.times::<MOST_TICKS, MOST_NORMAL>(n);
-        return Some((Exact { x: zero, y: c, d: n }, Exact { x: right, y: c, d: n }));
+        return Some((
+            Exact {
+                x: zero,
+                y: c,
+                d: n,
+            },
+            Exact {
+                x: right,
+                y: c,
+                d: n,
+            },
+        ));
     }
     None
 }
@@ -119,7 +137,10 @@ fn falling(a: &Area, m: Whole, n: Whole, c: Whole) -> Option<(Exact, Exact)>
     ensures value { result ≡ falling a.now m n c }
     ensures exact { IfSome result (λ ends. AreEnds ends) }
 {
-    let corner = a.w.times::<MOST_TICKS, MOST_NORMAL>(m).plus(a.h.times::<MOST_TICKS, MOST_NORMAL>(n));
+    let corner = a
+        .w
+        .times::<MOST_TICKS, MOST_NORMAL>(m)
+        .plus(a.h.times::<MOST_TICKS, MOST_NORMAL>(n));
     if Whole::new(0).below(c) && c.below(corner) {
         return Some((falling_first(a, m, n, c), falling_last(a, m, n, c)));
     }

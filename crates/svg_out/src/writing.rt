@@ -32,7 +32,15 @@ fn write_label<S: Sink>(
 {
     let (spot, side, point) = label;
     let name = names[point as usize].bytes();
-    write_name(h, ink, name_place(&spot, side), anchor_of(side), name, pen, sink)
+    write_name(
+        h,
+        ink,
+        name_place(&spot, side),
+        anchor_of(side),
+        name,
+        pen,
+        sink,
+    )
 }
 
 fn write_shape<S: Sink>(
