@@ -1,0 +1,4 @@
+pub mod Falling
+pub mod Turning
+pub mod Near
+pub mod Alike
