@@ -1,1 +1,3 @@
--- lemmas
+pub mod Sketches
+pub mod Lines
+pub mod Sounding

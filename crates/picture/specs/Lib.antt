@@ -1,2 +1,4 @@
 pub mod Shapes
 pub mod Pieces
+pub mod Drawing
+pub mod Drawable
