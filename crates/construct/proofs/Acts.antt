@@ -1,5 +1,5 @@
 -- Steps of the placement of a list of acts.
-use Rattle.std.proofs.Common.{◌≡◌, ◌≤◌, ◌<◌, ◌+◌, ◌∙◌, ℕ, List, ◌∷◌, length, get_or, drop, refl, sym, ap, subst, arith, add-one, drop-cons, length-append, Option, Some, None, Result, Ok, Err, Bool, true, false}
+use Rattle.std.proofs.Common.{◌≡◌, ◌≤◌, ◌<◌, ◌+◌, ◌∙◌, ℕ, List, [], ◌∷◌, length, get_or, drop, refl, sym, ap, subst, arith, add-one, drop-cons, length-append, Option, Some, None, Result, Ok, Err, Bool, true, false}
 use Rattle.std.proofs.lemmas.List.{drop_all}
 use Rattle.fixed_point.specs.declared.spot.Spot.{Spot}
 use Rattle.gcl_reader.specs.Grammar.{◌>>=◌, Fails}
@@ -10,7 +10,7 @@ use Rattle.gcl_reader.specs.declared.refusal.GclFault.TheVariants as fault
 use Rattle.gcl_names.specs.declared.program.Act.{Act}
 use Rattle.gcl_names.specs.declared.program.Deed.{Deed}
 use Rattle.gcl_names.specs.declared.program.Deed.TheVariants as deed
-use Rattle.gcl_names.specs.Sound.{Counts, Follows, AllFollow, after}
+use Rattle.gcl_names.specs.Sound.{Counts, Follows, AllFollow, after, after_all, nothing as start}
 use Rattle.circle_cut.specs.declared.exact.Exact.{Exact}
 use Rattle.circle_cut.specs.Cuts.{line_cuts, circle_cuts}
 use Rattle.circle_cut.specs.Lines.{same_spot}
@@ -18,9 +18,9 @@ use Rattle.circle_cut.specs.Places.{rounded}
 use Rattle.construct.specs.Formulas.{meet}
 use Rattle.construct.specs.declared.made.Made.{Made}
 use Rattle.construct.specs.declared.made.Made.TheVariants as made
-use Rattle.construct.specs.Constructed.{Constructed, spot_in, line_in, circle_in, with_point, counted}
+use Rattle.construct.specs.Constructed.{Constructed, nothing, spot_in, line_in, circle_in, with_point, counted}
 use Rattle.construct.specs.Made.{made_by, joined, halved, met, cut, counts_of, Uses}
-use Rattle.construct.specs.Placing.{is_near, put_spot, put_semi_free, put_two, put, put_made, after_act, after_acts, positions_in, constructed_by, spots_of}
+use Rattle.construct.specs.Placing.{Positions, is_near, put_spot, put_semi_free, put_two, put, put_made, after_act, after_acts, positions_in, constructed_by, spots_of}
 
 -- the lists have as many members as the counts say
 pub record Counted (n : Counts) (f : Constructed) : Type 0 where
@@ -122,8 +122,8 @@ made-more n (deed.Point x a b) f m p = alike _ _ (same-made n _ m _ p refl)
 made-more n (deed.Line l a b) f m p = alike _ _ (joined-more n (spot_in f a) (spot_in f b) m _ refl p)
 made-more n (deed.Circle c o a) f m p = alike _ _ (same-made n _ m _ p refl)
 made-more n (deed.Intersec x a b) f m p = alike _ _ (met-more n (meet (line_in f a) (line_in f b)) m p)
-made-more n (deed.CutLine x y c l) f m p = alike _ _ (cut-more n (line_cuts (circle_in f c) (line_in f l)) m p)
-made-more n (deed.CutCircle x y c k) f m p = alike _ _ (cut-more n (circle_cuts (circle_in f c) (circle_in f k)) m p)
+made-more n (deed.CutLine x y c l) f m p = let e = alike _ _ (cut-more n (line_cuts (circle_in f c) (line_in f l)) m p) in (omega (arith, e.0), e.1, e.2)
+made-more n (deed.CutCircle x y c k) f m p = let e = alike _ _ (cut-more n (circle_cuts (circle_in f c) (circle_in f k)) m p) in (omega (arith, e.0), e.1, e.2)
 made-more n (deed.Midpoint x a b) f m p = alike _ _ (same-made n _ m _ p refl)
 made-more n (deed.Med l a b) f m p = alike _ _ (halved-more n (spot_in f a) (spot_in f b) m _ refl p)
 made-more n (deed.Perp l a b) f m p = alike _ _ (same-made n _ m _ p refl)
@@ -202,3 +202,37 @@ unfolding AllFollow
 so_far-more acts i a f g lt e s p =
     let all = subst (AllFollow s.counts) (act-drop acts i a lt e) s.follow in
     record { counts = after s.counts a.deed; counted = after-counted a s.counts a.deed f g _ refl s.counted p; follow = all.1 }
+
+-- ---- the whole list
+
+counted-on : (acts : List Act) (g : Constructed) (r : Result Constructed Refusal) (n : Counts) → (r >>= after_acts acts) ≡ Ok g
+    → ((h : Constructed) → r ≡ Ok h → after_acts acts h ≡ Ok g → Counted n g) → Counted n g
+counted-on acts g (Ok h) n p more = more h refl p
+counted-on acts g (Err x) n p more = cc
+
+-- What acts construct has as many members as the counts after them say.
+all-counted : (acts : List Act) (n : Counts) (f g : Constructed) → Counted n f → after_acts acts f ≡ Ok g → Counted (after_all n acts) g
+unfolding after_acts after_all
+all-counted [] n f g k p = subst (Counted n) (ok-is f g p) k
+all-counted (a ∷ acts) n f g k p =
+    counted-on acts g (after_act a f) (after_all (after n a.deed) acts) p
+    (λ h e q. all-counted acts (after n a.deed) h g (after-counted a n a.deed f h (made_by a.deed f) refl k e) q)
+
+-- The positions have as many members as the counts say.
+pub record CountedSpots (n : Counts) (s : Positions) : Type 0 where
+  pub points : length s.points ≡ n.points
+  pub lines : length s.lines ≡ n.lines
+  pub circles : length s.circles ≡ n.circles
+
+spots-by : (n : Counts) (r : Result Constructed Refusal) (s : Positions) → ((g : Constructed) → r ≡ Ok g → Counted n g)
+    → (r >>= λ f. Ok (positions_in f)) ≡ Ok s → CountedSpots n s
+spots-by n (Ok g) s more p =
+    let k = more g refl in
+    let e : positions_in g ≡ s = cc in
+    subst (CountedSpots n) e (record { points = k.points; lines = k.lines; circles = k.circles })
+spots-by n (Err x) s more p = cc
+
+-- The spots of acts have as many members as the counts after them say.
+pub spots-counted : (acts : List Act) (s : Positions) → spots_of acts ≡ Ok s → CountedSpots (after_all start acts) s
+spots-counted acts s p =
+    spots-by (after_all start acts) (constructed_by acts) s (λ g e. all-counted acts start nothing g (record { points = refl; lines = refl; circles = refl }) e) p

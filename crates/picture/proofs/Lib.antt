@@ -1,3 +1,4 @@
 pub mod Sketches
 pub mod Lines
 pub mod Sounding
+pub mod Steps

@@ -22,4 +22,3 @@ some_way l p = two-ways l.n1 l.n2 p
 
 pub is_line : (l : LineEq) → IsLaid l → IsLine (line_of l)
 is_line l h = record { some = some_way l h.some; size_1 = h.plain.n1; size_2 = h.plain.n2; size_c = h.plain.c }
-

@@ -50,7 +50,10 @@ most n true t = search rules
 most n false t = search rules
 
 sized-by : (n : Counts) (w h : ℤ) → Follows n (deed.Dim w h) → ((pos 1 ≤ℤ ticks_of w) × (ticks_of w ≤ℤ pos MOST_TICKS)) × ((pos 1 ≤ℤ ticks_of h) × (ticks_of h ≤ℤ pos MOST_TICKS))
-sized-by n w h f = ?
+sized-by n w h f = (
+  (least (ticks_of w) (int_le (ticks_of w) (pos MOST_TICKS)) f.1.0.1, most (ticks_of w) (int_le (pos 1) (ticks_of w)) f.1.0.1),
+  (least (ticks_of h) (int_le (ticks_of h) (pos MOST_TICKS)) f.1.1.0.1, most (ticks_of h) (int_le (pos 1) (ticks_of h)) f.1.1.0.1),
+)
 
 -- Each size of a sound program is that of a picture.
 pub sized-sound : (p : Program) (i : ℕ) (a : Act) → IsSound p → i < length p.acts → a ≡ get_or p.acts i a → IsSized a.deed

@@ -1,5 +1,5 @@
 // Drawing a program.
-ghost use Rattle.std.specs.Prelude.{◌≡◌, ◌<◌, ◌≤◌, length, OnOk, IfOk, IfSome, Ok};
+ghost use Rattle.std.specs.Prelude.{◌≡◌, ◌<◌, ◌≤◌, pos, ◌≤ℤ◌, length, OnOk, IfOk, IfSome, Ok};
 ghost use Rattle.gcl_names.specs.Sound.{IsSound};
 ghost use Rattle.circle_cut.specs.Sizes.{IsLaid, IsNear, IsRound};
 ghost use Rattle.construct.specs.Placing.{spots_of};
@@ -113,10 +113,12 @@ fn add_ends(ends: Option<(Spot, Spot)>, canvas: &mut Canvas) -> Result<(), Alloc
 }
 
 // The radius of a circle, rounded down.
+#[tactic(auto, using(edge_num::proofs::Roots::root_below_radius))]
 fn radius(k: &Round) -> i64
     requires { IsRound k.now }
     ensures value { result ≡ radius_of k.now }
-    ensures size { result ≤ MOST_NORMAL }
+    ensures from { pos 0 ≤ℤ result }
+    ensures to { result ≤ℤ pos MOST_NORMAL }
 {
     isqrt(k.square.unsigned_abs()) as i64
 }
@@ -130,7 +132,11 @@ fn draw_deed(deed: &Deed, spots: &Spots, a: &Area, canvas: &mut Canvas) -> Resul
         ≡ (canvas.old.0, drawn a.now (positions_of spots.now) deed.now canvas.old.1)) }
 {
     match deed {
-        Deed::Color(r, g, b) => canvas.set_ink(Ink { r: *r, g: *g, b: *b }),
+        Deed::Color(r, g, b) => canvas.set_ink(Ink {
+            r: *r,
+            g: *g,
+            b: *b,
+        }),
         Deed::Drawpoint(x) => canvas.add(Shape::Dot(*point(spots, *x)))?,
         Deed::Drawsegment(x, y) => {
             canvas.add(Shape::Segment(*point(spots, *x), *point(spots, *y)))?;
@@ -176,17 +182,14 @@ pub fn draw(alloc: Global, program: &Program, spots: &Spots) -> Result<Picture, 
 }
 
 // All that the acts of a program draw.
-fn sketch(
-    alloc: Global,
-    program: &Program,
-    spots: &Spots,
-    a: &Area,
-) -> Result<Canvas, AllocError>
+fn sketch(alloc: Global, program: &Program, spots: &Spots, a: &Area) -> Result<Canvas, AllocError>
     requires sound { IsSound program.now }
     requires placed { spots_of program.now.acts ≡ Ok (positions_of spots.now) }
     requires area { IsArea a.now }
-    ensures { IfOk result (λ canvas. canvas ≡ (length program.now.points,
-        drawn_from a.now (positions_of spots.now) program.now.acts blank)) }
+    ensures { IfOk result (λ canvas. canvas ≡ (
+      length program.now.points,
+      drawn_from a.now (positions_of spots.now) program.now.acts blank,
+    )) }
 {
     let acts = program.acts.as_slice();
     let mut canvas = Canvas::new(alloc, program.points.as_slice().len());
