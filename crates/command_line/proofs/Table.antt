@@ -3,7 +3,8 @@ use Rattle.std.proofs.Common.{◌≡◌, List, ℕ, length, Option, None, Some, 
 use Rattle.desk_io.specs.Files.{Files, file_of}
 use Rattle.gcl_reader.specs.declared.refusal.Refusal.{Refusal}
 use Rattle.command_line.specs.Answer.{Answer, answer_from, of_file, too_large, text_form, answer_of}
-use Rattle.command_line.specs.Command.{Command, most_bytes}
+use Rattle.command_line.specs.Command.{Command}
+use Rattle.gcl_reader.specs.declared.limits.TheConstants.{MOST_BYTES}
 use Rattle.command_line.specs.Run.{IsSilent}
 use Rattle.command_line.specs.declared.status.Status.TheVariants.{WriteFault}
 
@@ -27,9 +28,9 @@ proper_if true bytes made e = cc
 proper_if false bytes (Ok text) e = cc
 proper_if false bytes (Err refusal) e = cc
 
-proper_of : (command : Command) (o : Option (List ℕ)) → (of_file most_bytes o (λ bytes. answer_from bytes (command bytes))).status ≡ WriteFault → ⊥
+proper_of : (command : Command) (o : Option (List ℕ)) → (of_file MOST_BYTES o (λ bytes. answer_from bytes (command bytes))).status ≡ WriteFault → ⊥
 proper_of command None e = cc
-proper_of command (Some file) e = proper_if (nat_lt most_bytes (length file)) file (command file) e
+proper_of command (Some file) e = proper_if (nat_lt MOST_BYTES (length file)) file (command file) e
 
 pub proper_text : (command : Command) (name : List ℕ) (files : Files) → (answer_of (Some (text_form command name)) files).status ≡ WriteFault → ⊥
 proper_text command name files e = proper_of command (file_of files name) e

@@ -4,8 +4,9 @@ use Rattle.std.specs.Str.{bytes_eq}
 use Rattle.desk_io.specs.Files.{Files, file_of}
 use Rattle.gcl_reader.specs.declared.refusal.Refusal.{Refusal}
 use Rattle.command_line.specs.Note.{refusal_line}
-use Rattle.command_line.specs.Command.{Command, most_bytes}
-use Rattle.command_line.specs.Pipeline.{svg_of, system_of, show_of}
+use Rattle.command_line.specs.Command.{Command}
+use Rattle.gcl_reader.specs.declared.limits.TheConstants.{MOST_BYTES}
+use Rattle.command_line.specs.Pipeline.{svg_of, latex_of, system_of, show_of}
 use Rattle.command_line.specs.declared.status.Status.{Status}
 use Rattle.command_line.specs.declared.status.Status.TheVariants.{Done, Usage, Refused, ReadFault, TooLarge}
 
@@ -66,7 +67,7 @@ first_file files = get_or files 0 []
 -- The form of a command that makes a text of one file.
 abbrev pub text_form : Command → List ℕ → Form
 text_form command name = record {
-  sources = record { name = name; most = most_bytes } ∷ [];
+  sources = record { name = name; most = MOST_BYTES } ∷ [];
   over = λ files. answer_from (first_file files) (command (first_file files));
 }
 
@@ -86,6 +87,7 @@ one_file command (name ∷ other ∷ words) = None
 abbrev pub rows : List Row
 rows =
     record { word = codes "svg"; form = one_file svg_of }
+    ∷ record { word = codes "latex"; form = one_file latex_of }
     ∷ record { word = codes "system"; form = one_file system_of }
     ∷ record { word = codes "show"; form = one_file show_of }
     ∷ []

@@ -5,7 +5,3 @@ use Rattle.gcl_reader.specs.declared.refusal.Refusal.{Refusal}
 -- The text that a command makes of the bytes of a file, or why it refuses them.
 abbrev pub Command : Type 0
 Command = List ℕ → Result (List ℕ) Refusal
-
--- The most bytes of a file.
-abbrev pub most_bytes : ℕ
-most_bytes = 1048576

@@ -2,15 +2,16 @@
 use Rattle.std.specs.Prelude.{Option, Some, None}
 use Rattle.command_line.specs.Answer.{Form, text_form}
 use Rattle.command_line.specs.Command.{Command}
-use Rattle.command_line.specs.Pipeline.{svg_of, system_of, show_of}
+use Rattle.command_line.specs.Pipeline.{svg_of, latex_of, system_of, show_of}
 use Rattle.command_line.specs.declared.invocation.TextForm.{TextForm}
-use Rattle.command_line.specs.declared.invocation.TextForm.TheVariants.{Svg, System, Show}
+use Rattle.command_line.specs.declared.invocation.TextForm.TheVariants.{Svg, Latex, System, Show}
 use Rattle.command_line.specs.declared.invocation.Invocation.{Invocation}
 use Rattle.command_line.specs.declared.invocation.Invocation.TheVariants.{Wrong, Text}
 
 -- The command of a form that makes a text of one file.
 abbrev pub command_of : TextForm → Command
 command_of Svg = svg_of
+command_of Latex = latex_of
 command_of System = system_of
 command_of Show = show_of
 

@@ -7,10 +7,4 @@ pub mod Run
 pub mod Contract
 pub mod Statuses
 pub mod ExitCodes
-pub mod Place
-pub mod Drawing
-pub mod View
-pub mod Picture
-pub mod Pieces
-pub mod Svg
 pub mod Drawn

@@ -1,14 +1,15 @@
-// What an SVG text is written from.
-ghost use Rattle.command_line.specs.Picture.{IsDrawable};
+// What the text of a picture is written from.
+ghost use Rattle.std.specs.Prelude.{length};
+ghost use Rattle.picture.specs.Shapes.{IsDrawable};
 
-use crate::picture::Picture;
 use fixed_point::Row;
 use gcl_reader::Name;
+use picture::Picture;
 
 /// A picture that can be drawn, with the names of its points.
 #[derive(Drop)]
 pub struct Drawn {
     pub picture: Picture,
     pub names: Row<Name>,
-    ghost drawable: { IsDrawable picture },
+    ghost drawable: { IsDrawable (length names) picture },
 }

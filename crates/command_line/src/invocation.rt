@@ -8,6 +8,7 @@ ghost use Rattle.command_line.specs.Forms.{form_seen};
 #[derive(Clone, Copy, Debug, PartialEq, Eq)]
 pub enum TextForm {
     Svg,
+    Latex,
     System,
     Show,
 }
@@ -30,6 +31,7 @@ pub fn read_command(words: &[String]) -> Invocation<'_>
     };
     let form = match word.as_str() {
         "svg" => TextForm::Svg,
+        "latex" => TextForm::Latex,
         "system" => TextForm::System,
         "show" => TextForm::Show,
         _ => return Invocation::Wrong,

@@ -1,28 +1,29 @@
 // The commands that make a text of one file.
 ghost use Rattle.std.specs.Prelude.{◌≡◌, ◌≤◌, List, ℕ, length};
 ghost use Rattle.gcl_reader.specs.Grammar.{Gives};
-ghost use Rattle.command_line.specs.Command.{most_bytes};
-ghost use Rattle.command_line.specs.Pipeline.{svg_of, system_of, show_of};
-ghost use Rattle.command_line.specs.Drawn.{svg_seen, system_seen, shown};
+ghost use Rattle.command_line.specs.Pipeline.{svg_of, latex_of, system_of, show_of};
+ghost use Rattle.command_line.specs.Drawn.{svg_seen, latex_seen, system_seen, shown};
 
 use crate::asked::Asked;
-use crate::drawing::draw;
 use crate::drawn::Drawn;
-use crate::spots::place;
 use crate::stage::TextCommand;
-use crate::svg::write_svg;
 use algebraize::{problems, write_system};
+use construct::place;
 use desk_io::{Failed, Pen, Sink};
 use gcl_names::{Program, resolve};
-use gcl_reader::{File, GclFault, read, show};
+use gcl_reader::{MOST_BYTES, File, GclFault, read, show};
+use latex_out::write_latex;
+use picture::draw;
 use poly_model::Row;
 use std::alloc::Global;
+use svg_out::write_svg;
 
-// The picture of a file.
-#[tactic(auto, unfolding(crate::specs::Pipeline::svg_of))]
+// The picture of a file. Both texts of a picture are written from it.
+#[tactic(auto, unfolding(crate::specs::Pipeline::svg_of, crate::specs::Pipeline::latex_of))]
 fn picture_of(alloc: Global, bytes: &[u8]) -> Result<Drawn, GclFault>
-    requires { length bytes.now ≤ most_bytes }
-    ensures { Gives svg_seen result (svg_of bytes.now) }
+    requires { length bytes.now ≤ MOST_BYTES }
+    ensures svg { Gives svg_seen result (svg_of bytes.now) }
+    ensures latex { Gives latex_seen result (latex_of bytes.now) }
 {
     let file = read(alloc, bytes)?;
     let program = resolve(alloc, &file)?;
@@ -35,7 +36,7 @@ fn picture_of(alloc: Global, bytes: &[u8]) -> Result<Drawn, GclFault>
     })
 }
 
-/// `svg`: the picture of the file.
+/// `svg`: the picture of the file, as SVG.
 pub struct SvgCommand;
 
 impl TextCommand for SvgCommand {
@@ -57,10 +58,32 @@ impl TextCommand for SvgCommand {
     }
 }
 
+/// `latex`: the picture of the file, for LaTeX.
+pub struct LatexCommand;
+
+impl TextCommand for LatexCommand {
+    ghost use Rattle.command_line.specs.Drawn.{latex_seen};
+    ghost use Rattle.command_line.specs.Pipeline.{latex_of};
+
+    type Prepared = Drawn;
+
+    ghost made = { latex_of };
+
+    ghost text = { latex_seen };
+
+    fn prepare(alloc: Global, bytes: &[u8]) -> Result<Drawn, GclFault> {
+        picture_of(alloc, bytes)
+    }
+
+    fn write<S: Sink>(prepared: &Drawn, pen: &mut Pen, sink: &mut S) -> Result<(), Failed> {
+        write_latex(&prepared.picture, prepared.names.as_slice(), pen, sink)
+    }
+}
+
 // The problems of a file's proves.
 #[tactic(auto, unfolding(crate::specs::Pipeline::system_of))]
 fn problems_of(alloc: Global, bytes: &[u8]) -> Result<Asked, GclFault>
-    requires { length bytes.now ≤ most_bytes }
+    requires { length bytes.now ≤ MOST_BYTES }
     ensures { Gives system_seen result (system_of bytes.now) }
 {
     let file = read(alloc, bytes)?;
@@ -96,7 +119,7 @@ impl TextCommand for SystemCommand {
 // The file, read.
 #[tactic(auto, unfolding(crate::specs::Pipeline::show_of))]
 fn file_of(alloc: Global, bytes: &[u8]) -> Result<File, GclFault>
-    requires { length bytes.now ≤ most_bytes }
+    requires { length bytes.now ≤ MOST_BYTES }
     ensures { Gives shown result (show_of bytes.now) }
 {
     let file = read(alloc, bytes)?;

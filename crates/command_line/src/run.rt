@@ -6,18 +6,16 @@ ghost use Rattle.desk_io.specs.Files.{Lacks};
 ghost use Rattle.command_line.specs.Answer.{answer_of, form_of, text_form};
 ghost use Rattle.command_line.specs.Command.{Command};
 ghost use Rattle.command_line.specs.Contract.{IsRun, IsTextRun, IsQuiet, lent, views};
-ghost use Rattle.command_line.specs.Pipeline.{svg_of, system_of, show_of};
+ghost use Rattle.command_line.specs.Pipeline.{svg_of, latex_of, system_of, show_of};
 ghost use Rattle.command_line.specs.Run.{Answers};
 
 use crate::invocation::{Invocation, TextForm, read_command};
-use crate::pipeline::{ShowCommand, SvgCommand, SystemCommand};
+use crate::pipeline::{LatexCommand, ShowCommand, SvgCommand, SystemCommand};
 use crate::stage::{TextCommand, fetch, put_file, say};
 use crate::status::Status;
 use desk_io::{Desk, Sink};
+use gcl_reader::MOST_BYTES;
 use std::alloc::Global;
-
-// The most bytes of a file.
-const MOST_BYTES: u64 = 1_048_576;
 
 const USAGE: &[u8] =
     b"usage: gclc svg FILE, latex FILE, system FILE, show FILE, prove FILE [--workers N], check LOG [FILE]\n";
@@ -82,6 +80,22 @@ pub fn svg_run<K: Desk, S: Sink, N: Sink>(
     file_run::<SvgCommand, K, S, N>(alloc, name, desk, out, notes)
 }
 
+/// `latex FILE`: writes the file's picture for LaTeX.
+pub fn latex_run<K: Desk, S: Sink, N: Sink>(
+    alloc: Global,
+    name: &str,
+    desk: &mut K,
+    out: &mut S,
+    notes: &mut N,
+) -> Status
+    ensures run { IsRun (views K.held K.faults S.written S.faults N.written N.faults)
+        (lent desk.old out.old notes.old) (lent desk.new out.new notes.new)
+        (Some (text_form latex_of name.now)) result }
+    ensures text { IsTextRun (lent desk.old out.old notes.old) (lent desk.new out.new notes.new) result }
+{
+    file_run::<LatexCommand, K, S, N>(alloc, name, desk, out, notes)
+}
+
 /// `system FILE`: writes the equations of each prove of the file.
 pub fn system_run<K: Desk, S: Sink, N: Sink>(
     alloc: Global,
@@ -131,6 +145,7 @@ pub fn gclc_run<K: Desk, S: Sink, N: Sink>(
 {
     match read_command(words) {
         Invocation::Text(TextForm::Svg, name) => svg_run(alloc, name, desk, out, notes),
+        Invocation::Text(TextForm::Latex, name) => latex_run(alloc, name, desk, out, notes),
         Invocation::Text(TextForm::System, name) => system_run(alloc, name, desk, out, notes),
         Invocation::Text(TextForm::Show, name) => show_run(alloc, name, desk, out, notes),
         Invocation::Wrong => say(USAGE, Status::Usage, notes),

@@ -6,7 +6,7 @@ ghost use Rattle.desk_io.specs.Files.{Files, Holds, Lacks, file_of};
 ghost use Rattle.gcl_reader.specs.Grammar.{Gives};
 ghost use Rattle.gcl_reader.specs.declared.refusal.Refusal.{Refusal};
 ghost use Rattle.command_line.specs.Answer.{Answer, only_notes, of_file, answer_from};
-ghost use Rattle.command_line.specs.Command.{Command, most_bytes};
+ghost use Rattle.command_line.specs.Command.{Command};
 ghost use Rattle.command_line.specs.Run.{Ends, Answers, IsSilent};
 ghost use Rattle.command_line.specs.Contract.{IsQuiet};
 ghost use Rattle.command_line.specs.Statuses.{IsReadingFault, IsWritingStatus};
@@ -14,7 +14,7 @@ ghost use Rattle.command_line.specs.Statuses.{IsReadingFault, IsWritingStatus};
 use crate::note::note_of;
 use crate::status::Status;
 use desk_io::{Desk, DeskFault, Failed, Pen, Sink, read_whole};
-use gcl_reader::{GclFault, Refusal};
+use gcl_reader::{MOST_BYTES, GclFault, Refusal};
 use std::alloc::Global;
 
 /// A command that makes a text of one file: first all that the text needs, with all the memory that it takes, then the
@@ -31,7 +31,7 @@ pub trait TextCommand {
 
     /// Prepares the text of a file.
     fn prepare(alloc: Global, bytes: &[u8]) -> Result<Self::Prepared, GclFault>
-        requires { length bytes.now ≤ most_bytes }
+        requires { length bytes.now ≤ MOST_BYTES }
         ensures { Gives text result (made bytes.now) };
 
     /// Writes the text, and takes no memory.
@@ -152,7 +152,7 @@ pub fn put_file<C: TextCommand, S: Sink, N: Sink>(
     out: &mut S,
     notes: &mut N,
 ) -> Status
-    requires { length bytes.now ≤ most_bytes }
+    requires { length bytes.now ≤ MOST_BYTES }
     ensures ends { Ends (answer_from bytes.now (C.made bytes.now))
         (S.written out.old) (S.written out.new) (N.written notes.old) (N.written notes.new) result }
     ensures write_fault { result ≡ Status.WriteFault
