@@ -2,7 +2,7 @@
 use Rattle.std.proofs.Common.{◌≡◌, ℕ, ℤ, zero, suc, ◌+◌, ◌*◌, ◌/◌, ◌%◌, min, ◌≤◌, List, [], ◌∷◌, length, Option, Some, None, Bool, true, false, refl, sym, ap, subst, ◌∙◌, arith, nat_le, ◌==◌}
 use Rattle.std.specs.Prelude.{pos, negsuc}
 use Rattle.std.proofs.lemmas.Bool.{and_parts, leb-true, eqb-true}
-use Rattle.gcl_reader.specs.Table.{parameters_of, points_of, in_range}
+use Rattle.gcl_reader.specs.Table.{parameters_of, points_of}
 use Rattle.gcl_reader.specs.Fitting.{IsWord}
 use Rattle.gcl_reader.specs.Spelling.{statement_in}
 use Rattle.gcl_reader.specs.declared.limits.TheConstants.{UNIT, MOST_BYTE}
@@ -15,7 +15,7 @@ use Rattle.gcl_reader.specs.declared.word.Statement.{Statement}
 use Rattle.gcl_reader.specs.declared.word.Statement.TheVariants as statement
 use Rattle.gcl_names.specs.Reference.{refers_to_circle}
 use Rattle.gcl_names.specs.Sound.{Counts, filled, all_filled, FitsRef, FitRefs, InRange, Follows, after, AreMade}
-use Rattle.gcl_names.specs.Deed.{spelled, word_of, refs_of, deed_of, plain_deed, points_in, byte_of}
+use Rattle.gcl_names.specs.Deed.{spelled, deed_of, plain_deed, points_in, byte_of}
 use Rattle.gcl_names.specs.declared.meaning.Ref.{Ref}
 use Rattle.gcl_names.specs.declared.meaning.Ref.TheVariants as ref
 use Rattle.gcl_names.specs.declared.program.Deed.{Deed}

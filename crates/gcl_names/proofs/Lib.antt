@@ -7,3 +7,4 @@ pub mod Below
 pub mod Fit
 pub mod Deeds
 pub mod SoundActs
+pub mod Naming

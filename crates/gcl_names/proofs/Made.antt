@@ -1,5 +1,5 @@
 -- A search for a new name behind another.
-use Rattle.std.proofs.Common.{◌≡◌, ℕ, ◌≤◌, ◌<◌, List, [], ◌∷◌, length, get_or, Bool, true, false, ◌||◌, refl, sym, ap, ◌∙◌, arith}
+use Rattle.std.proofs.Common.{◌≡◌, ℕ, ◌≤◌, ◌<◌, List, [], ◌∷◌, length, get_or, Bool, true, false, ◌||◌, refl, sym, ap, arith}
 use Rattle.gcl_reader.specs.declared.word.Parameter.{Parameter}
 use Rattle.gcl_reader.specs.declared.file.Arg.{Arg}
 use Rattle.gcl_names.specs.Reference.{makes, is_made}

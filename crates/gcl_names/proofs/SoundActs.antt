@@ -1,5 +1,5 @@
 -- A fitting file resolves to a sound program.
-use Rattle.std.proofs.Common.{◌≡◌, ℕ, ◌+◌, ◌<◌, List, [], ◌∷◌, length, Option, Some, None, option_map, Bool, true, false, cond, nat_le, Result, Ok, Err, refl, ap, sym, subst, ◌∙◌, arith}
+use Rattle.std.proofs.Common.{◌≡◌, ◌+◌, ◌<◌, List, [], ◌∷◌, length, Option, Some, None, option_map, Bool, true, false, cond, nat_le, Result, Ok, Err, refl, ap, sym, subst, ◌∙◌, arith}
 use Rattle.std.specs.List.{AllByRecursion}
 use Rattle.std.proofs.lemmas.Bool.{leb-false}
 use Rattle.gcl_reader.specs.Fitting.{IsFitting, FitsTable}
@@ -50,7 +50,7 @@ counted-starts c (word.Prove q) s start holds h = started-prove q s start _ (nat
 counted-starts c w s start holds h = started-same w s start holds h refl
 
 -- A command of a fitting file has an act, which follows the counts and leaves those of the scope behind it.
-abbrev ActFollows : Counts → Option Act → Counts → Type 0
+abbrev pub ActFollows : Counts → Option Act → Counts → Type 0
 ActFollows n None left = ⊥
 ActFollows n (Some a) left = Follows n a.deed × (left ≡ after n a.deed)
 
@@ -58,7 +58,7 @@ act-of : (c : Command) (n left : Counts) (d : Option Deed) → DeedFollows n d l
 act-of c n left None h = h
 act-of c n left (Some d) h = h
 
-act-follows : (c : Command) (s after : Scope) (a : Option Act) → FitsTable c → Holds s → act_in c s ≡ Ok (a, after) → ActFollows (counts_of s) a (counts_of after) × Holds after
+pub act-follows : (c : Command) (s after : Scope) (a : Option Act) → FitsTable c → Holds s → act_in c s ≡ Ok (a, after) → ActFollows (counts_of s) a (counts_of after) × Holds after
 unfolding act_in
 act-follows c s after a fits holds h =
     let w = c.word in
@@ -105,7 +105,7 @@ acts-follow (c ∷ commands) s last acts fits holds h =
     subst (λ (x : List Act × Scope). ActsFollow s (c ∷ commands) x.0 x.1) e
     (put-follows s one.0.1 others.0.1 c commands one.0.0 others.0.0 first.0 rest)
 
-nothing-holds : Holds nothing_defined
+pub nothing-holds : Holds nothing_defined
 unfolding AllBelow
 nothing-holds = record { below = tt; points = omega arith; proves = omega arith }
 

@@ -4,3 +4,4 @@ pub mod Deed
 pub mod Reference
 pub mod Program
 pub mod Sound
+pub mod Named

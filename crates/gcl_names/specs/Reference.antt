@@ -1,5 +1,5 @@
 -- The references of a command: each of its arguments, for its parameter, with a number in place of its name.
-use Rattle.std.specs.Prelude.{ℕ, ◌+◌, ◌++◌, List, [], ◌∷◌, length, Option, Some, None, Result, Ok, Err, Bool, true, false, not, ◌&&◌, ◌||◌, if◌then◌else◌, nat_le, is_some}
+use Rattle.std.specs.Prelude.{ℕ, ◌+◌, ◌++◌, List, [], ◌∷◌, length, Option, Some, None, Result, Ok, Err, Bool, true, false, ◌&&◌, ◌||◌, if◌then◌else◌, nat_le, is_some}
 use Rattle.std.specs.Str.{bytes_eq}
 use Rattle.gcl_reader.specs.Grammar.{◌>>=◌}
 use Rattle.gcl_reader.specs.Span.{refusal, span_of_arg}

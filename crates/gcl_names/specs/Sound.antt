@@ -1,5 +1,5 @@
 -- Sound programs: each act uses what earlier acts made, and makes what comes next in number.
-use Rattle.std.specs.Prelude.{◌≡◌, ℕ, ℤ, ◌+◌, ◌≤◌, ◌<◌, List, [], ◌∷◌, length, IsTrue, Bool, true, false, unsigned_abs}
+use Rattle.std.specs.Prelude.{◌≡◌, ℕ, ℤ, ◌+◌, ◌≤◌, ◌<◌, List, [], ◌∷◌, length, IsTrue, Bool, true, false}
 use Rattle.gcl_reader.specs.declared.word.Range.{Range}
 use Rattle.gcl_reader.specs.declared.word.Parameter.{Parameter}
 use Rattle.gcl_reader.specs.declared.word.Parameter.TheVariants as parameter

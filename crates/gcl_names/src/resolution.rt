@@ -4,6 +4,7 @@ ghost use Rattle.gcl_reader.specs.Grammar.{Gives};
 ghost use Rattle.gcl_reader.specs.Spelling.{statement_in};
 ghost use Rattle.gcl_names.specs.Program.{counted, act_with, act_in, put, acts_in, resolved};
 ghost use Rattle.gcl_names.specs.Sound.{IsSound};
+ghost use Rattle.gcl_names.specs.Named.{IsNamed};
 
 use crate::deed::deed_of;
 use crate::limits::MOST_PROVES;
@@ -105,6 +106,7 @@ pub fn resolve(alloc: Global, file: &File) -> Result<Program, GclFault>
     requires { IsFitting file.now.commands }
     ensures value { Gives (λ p. p) result (resolved file.now.commands) }
     ensures sound { IfOk result (λ p. IsSound p) }
+    ensures named { IfOk result (λ p. IsNamed file.now.commands p) }
     ensures whole { IfOk result (λ p. length p.acts ≡ length file.now.commands) }
 {
     let mut scope = Scope::new(alloc);

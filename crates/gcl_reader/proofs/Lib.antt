@@ -8,3 +8,4 @@ pub mod ReadAgain
 pub mod Lines
 pub mod ShownAgain
 pub mod Pieces
+pub mod Stand

@@ -3,6 +3,7 @@ pub mod Name
 pub mod Span
 pub mod Grammar
 pub mod Tokens
+pub mod Standing
 pub mod Ahead
 pub mod Fitting
 pub mod Spelling

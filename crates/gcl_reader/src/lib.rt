@@ -17,7 +17,7 @@ mod word;
 pub use file::{Arg, Command, File, What};
 pub use limits::{LONGEST_NAME, MOST_BYTE, MOST_BYTES, MOST_COMMANDS, UNIT};
 pub use name::Name;
-pub use reading::{read, spelled_is_read};
+pub use reading::{read, spelled_is_read, tokens_stand};
 pub use refusal::{GclFault, Kind, Refusal};
 pub use showing::{show, shown_is_read};
 pub use span::Span;

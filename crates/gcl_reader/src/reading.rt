@@ -1,6 +1,7 @@
 ghost use Rattle.std.specs.Prelude.{◌≡◌, ◌+◌, ◌≤◌, ◌<◌, ◌^◌, length, [], ◌∷◌, option_map, Option, Some, None, IfOk};
 ghost use Rattle.gcl_reader.specs.declared.limits.TheConstants.{MOST_BYTES, MOST_COMMANDS};
 ghost use Rattle.gcl_reader.specs.Tokens.{lexed, put, tokens};
+ghost use Rattle.gcl_reader.specs.Standing.{TokensStand};
 ghost use Rattle.gcl_reader.specs.Fitting.{IsFitting};
 ghost use Rattle.gcl_reader.specs.Spelling.{Spells, SpelledIsRead};
 ghost use Rattle.gcl_reader.specs.Ahead.{ahead, token_of, first_of};
@@ -160,6 +161,11 @@ pub fn read(alloc: Global, bytes: &[u8]) -> Result<File, GclFault>
         commands: Row::from_vec(commands),
     })
 }
+
+/// Each token of a file has the text that stands at its place, and the line that its line feeds give that place.
+pub fn tokens_stand()
+    ensures { TokensStand }
+{}
 
 /// A file is read as whatever fitting commands its tokens spell. So no file spells two lists of them.
 pub fn spelled_is_read()
