@@ -3,14 +3,10 @@ use Rattle.std.proofs.Common.{◌≡◌, ◌≤◌, ◌<◌, ◌+◌, ℕ, zero,
 use Rattle.std.specs.List.{list_all}
 use Rattle.poly_model.specs.Polynomial.{Polynomial, is_over}
 use Rattle.poly_model.specs.declared.vars.VarName.{VarName}
-use Rattle.poly_text.specs.Text.{letter, number}
 use Rattle.algebraize.specs.declared.problem.Problem.{Problem}
 use Rattle.algebraize.specs.Problem.{Equations}
 use Rattle.algebraize.specs.Formed.{equations, is_own}
 use Rattle.algebraize.specs.System.{line_end, name_text, names_text, polynomial_line, polynomial_lines, problem_text, problems_text}
-
-pub name_pieces : (name : VarName) (a b : List ℕ) → a ≡ 32 ∷ letter name ∷ [] → b ≡ decimal (number name) → name_text name ≡ a ++ b
-name_pieces name a b p q = λ i. sym p i ++ sym q i
 
 pub names_next : (names : List VarName) (i : ℕ) (name : VarName) → i < length names → name ≡ get_or names i name → names_text (drop i names) ≡ name_text name ++ names_text (drop (i + 1) names)
 names_next names i name below is = at names i name below is ∙ ap (λ k. name_text name ++ names_text (drop k names)) (sym (add-one i))

@@ -1,7 +1,7 @@
 -- Layouts, and the prove of a number.
 use Rattle.std.proofs.Common.{append_assoc, append-nil, rules, ◌≡◌, ◌≤◌, ◌<◌, ◌+◌, ◌-◌, ◌==◌, ℕ, zero, suc, List, [], ◌∷◌, ◌++◌, length, get_or, drop, refl, sym, ◌∙◌, ap, subst, arith, Result, Ok, Err, IfOk, Bool, true, false, ◌&&◌, if◌then◌else◌, nat_le, nat_eq, length-append, add-one}
 use Rattle.std.proofs.lemmas.Bool.Decides.{nat_tests}
-use Rattle.poly_model.specs.Names.{u_numbers, x_numbers, count_from, are_variables}
+use Rattle.poly_model.specs.Names.{count_from, are_variables, numbers_of, is_parameter, is_dependent}
 use Rattle.poly_model.specs.declared.vars.VarName.{VarName}
 use Rattle.poly_model.specs.declared.vars.VarName.TheVariants.{U, X}
 use Rattle.poly_model.specs.declared.limits.TheConstants.{MOST_VARIABLES}
@@ -68,6 +68,13 @@ laid_out-ok before prove l e =
       | true ↦ λ t h. (cc, below_test _ _ t)
       | false ↦ λ t h. cc
     ] refl e
+
+-- The numbers of the parameters and of the dependent variables.
+abbrev u_numbers : List VarName → List ℕ
+u_numbers = numbers_of is_parameter
+
+abbrev x_numbers : List VarName → List ℕ
+x_numbers = numbers_of is_dependent
 
 -- The variables are numbered.
 record Numbered (l : Layout) : Type 0 where

@@ -3,7 +3,7 @@ use Rattle.std.specs.Prelude.{ℕ, ◌+◌, List, [], ◌∷◌, ◌++◌, codes
 use Rattle.std.specs.List.{flat_map}
 use Rattle.poly_model.specs.Polynomial.{Polynomial}
 use Rattle.poly_model.specs.declared.vars.VarName.{VarName}
-use Rattle.poly_text.specs.Text.{letter, number, poly_text}
+use Rattle.poly_text.specs.Text.{variable_text, poly_text}
 use Rattle.algebraize.specs.Problem.{Equations}
 
 -- The end of a line.
@@ -12,7 +12,7 @@ line_end = 10 ∷ []
 
 -- A variable behind a blank.
 abbrev pub name_text : VarName → List ℕ
-name_text name = 32 ∷ letter name ∷ decimal (number name)
+name_text name = codes " " ++ variable_text name
 
 -- The variables, each behind a blank.
 abbrev pub names_text : List VarName → List ℕ

@@ -4,7 +4,6 @@ ghost use Rattle.std.specs.List.{flat_map, list_all};
 ghost use Rattle.desk_io.specs.Bytes.{Writes};
 ghost use Rattle.desk_io.specs.Causes.{HasCause};
 ghost use Rattle.poly_model.specs.Polynomial.{is_over};
-ghost use Rattle.poly_text.specs.Text.{letter, number};
 ghost use Rattle.algebraize.specs.Formed.{equations, is_own};
 ghost use Rattle.algebraize.specs.System.{line_end, name_text, names_text, polynomial_line, polynomial_lines, problem_text, problems_text, system_text};
 
@@ -12,33 +11,14 @@ use crate::problem::Problem;
 use desk_io::{Failed, Pen, Sink};
 use itoa::Buffer;
 use poly_model::{OwnedPoly, VarName, Vars};
-use poly_text::print_poly;
-
-fn blank_and_letter(name: VarName) -> &'static [u8]
-    ensures { result.now ≡ 32 ∷ letter name ∷ [] }
-{
-    match name {
-        VarName::U(_) => b" u",
-        VarName::X(_) => b" x",
-    }
-}
-
-fn number(name: VarName) -> u8
-    ensures { result ≡ number name }
-{
-    match name {
-        VarName::U(n) => n,
-        VarName::X(n) => n,
-    }
-}
+use poly_text::{print_poly, write_variable};
 
 fn write_name<S: Sink>(name: VarName, pen: &mut Pen, sink: &mut S) -> Result<(), Failed>
     ensures bytes { Writes (S.written sink.old) (S.written sink.new) pen.old pen.new result (name_text name) }
     ensures cause { HasCause (S.faults sink.old) (S.faults sink.new) result }
 {
-    pen.push(sink, blank_and_letter(name))?;
-    let mut buffer = Buffer::new();
-    pen.push(sink, buffer.format(number(name)).as_bytes())
+    pen.push(sink, b" ")?;
+    write_variable(name, pen, sink)
 }
 
 fn write_names<S: Sink>(vars: &Vars, pen: &mut Pen, sink: &mut S) -> Result<(), Failed>
