@@ -11,7 +11,7 @@ use algebraize::{problems, write_system};
 use construct::place;
 use desk_io::{Failed, Pen, Sink};
 use gcl_names::{Program, resolve};
-use gcl_reader::{MOST_BYTES, File, GclFault, read, show};
+use gcl_reader::{File, GclFault, MOST_BYTES, read, show};
 use latex_out::write_latex;
 use picture::draw;
 use poly_model::Row;

@@ -14,7 +14,7 @@ ghost use Rattle.command_line.specs.Statuses.{IsReadingFault, IsWritingStatus};
 use crate::note::note_of;
 use crate::status::Status;
 use desk_io::{Desk, DeskFault, Failed, Pen, Sink, read_whole};
-use gcl_reader::{MOST_BYTES, GclFault, Refusal};
+use gcl_reader::{GclFault, MOST_BYTES, Refusal};
 use std::alloc::Global;
 
 /// A command that makes a text of one file: first all that the text needs, with all the memory that it takes, then the

@@ -2,3 +2,4 @@ pub mod Shapes
 pub mod Pieces
 pub mod Drawing
 pub mod Drawable
+pub mod OneProof
