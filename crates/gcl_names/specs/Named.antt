@@ -40,7 +40,8 @@ pub record IsActOf (before behind : Meanings) (c : Command) (a : Act) : Type 0 w
 -- Each act is that of its command, from the names before the first to those behind the last.
 unfoldable pub AllNamed : Meanings → List Command → List Act → Meanings → Type 0
 AllNamed now [] [] last = now ≡ last
-AllNamed now (c ∷ commands) (a ∷ acts) last = (next : Meanings) × IsActOf now next c a × AllNamed next commands acts last
+AllNamed now (c ∷ commands) (a ∷ acts) last =
+    (next : Meanings) × IsActOf now next c a × AllNamed next commands acts last
 AllNamed now commands acts last = ⊥
 
 -- No two names are equal.

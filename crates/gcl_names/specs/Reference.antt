@@ -112,7 +112,8 @@ is_made text (p ∷ ps) [] = false
 is_made text (p ∷ ps) (a ∷ args) = makes text p a || is_made text ps args
 
 -- A new name is none that is defined already, nor one that is made again behind it in its command.
-abbrev pub new_name : (again : Bool) → List ℕ → Scope → Arg → Result (Ref × Scope) Refusal → Result (Ref × Scope) Refusal
+abbrev pub new_name : (again : Bool) → List ℕ → Scope → Arg →
+    Result (Ref × Scope) Refusal → Result (Ref × Scope) Refusal
 new_name again text s a new =
     if is_some (meaning_in text s.names) || again then Err (refusal kind.Twice (span_of_arg a)) else new
 
@@ -121,7 +122,8 @@ abbrev pub found : Parameter → (earlier : Meanings) → Bool → Scope → Arg
 found p earlier c s a text = used p c (meaning_in text earlier) a >>= λ r. Ok (r, s)
 
 -- A name for its parameter. The earlier names are those of the commands before.
-abbrev pub name_in : Parameter → (again : Bool) → (earlier : Meanings) → Bool → Scope → Arg → List ℕ → Result (Ref × Scope) Refusal
+abbrev pub name_in : Parameter → (again : Bool) → (earlier : Meanings) → Bool → Scope → Arg → List ℕ →
+    Result (Ref × Scope) Refusal
 name_in parameter.NewPoint again earlier c s a text = new_name again text s a (new_point text s a)
 name_in parameter.NewLine again earlier c s a text = new_name again text s a (new_line text s)
 name_in parameter.NewCircle again earlier c s a text = new_name again text s a (new_circle text s)
@@ -133,16 +135,19 @@ name_in parameter.OtherCurve again earlier c s a text = found parameter.OtherCur
 name_in (parameter.Number r) again earlier c s a text = found (parameter.Number r) earlier c s a text
 
 -- What an argument is, for its parameter: a number stands for itself.
-abbrev pub what_in : Parameter → List Parameter → List Arg → (earlier : Meanings) → Bool → Scope → Arg → What → Result (Ref × Scope) Refusal
+abbrev pub what_in : Parameter → List Parameter → List Arg → (earlier : Meanings) → Bool → Scope → Arg → What →
+    Result (Ref × Scope) Refusal
 what_in p ps args earlier c s a (what.Name text) = name_in p (is_made text ps args) earlier c s a text
 what_in p ps args earlier c s a (what.Number n) = Ok (ref.Number n, s)
 
 -- An argument for its parameter, in front of other parameters and their arguments.
-unfoldable pub ref_in : Parameter → List Parameter → List Arg → (earlier : Meanings) → Bool → Scope → Arg → Result (Ref × Scope) Refusal
+unfoldable pub ref_in : Parameter → List Parameter → List Arg → (earlier : Meanings) → Bool → Scope → Arg →
+    Result (Ref × Scope) Refusal
 ref_in p ps args earlier c s a = what_in p ps args earlier c s a a.what
 
 -- The arguments of a command, from the first to the last. Each is judged beside the one before it.
-unfoldable pub refs_in : List Parameter → List Arg → (earlier : Meanings) → Bool → Scope → Result (List Ref × Scope) Refusal
+unfoldable pub refs_in : List Parameter → List Arg → (earlier : Meanings) → Bool → Scope →
+    Result (List Ref × Scope) Refusal
 refs_in [] args earlier c s = Ok ([], s)
 refs_in (p ∷ ps) [] earlier c s = Ok ([], s)
 refs_in (p ∷ ps) (a ∷ args) earlier c s = do

@@ -100,7 +100,8 @@ after_all n (a ∷ acts) = after_all (after n a.deed) acts
 -- Each act follows those before it, the counts are those of the acts, and none passes its limit.
 pub record IsSound (p : Program) : Type 0 where
   pub follow : AllFollow nothing p.acts
-  pub counts : after_all nothing p.acts ≡ record { points = length p.points; lines = p.lines; circles = p.circles; proves = p.proves }
+  pub counts : after_all nothing p.acts
+      ≡ record { points = length p.points; lines = p.lines; circles = p.circles; proves = p.proves }
   pub acts : length p.acts ≤ MOST_COMMANDS
   pub points : length p.points ≤ MOST_POINTS
   pub proves : p.proves ≤ MOST_PROVES

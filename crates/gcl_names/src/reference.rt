@@ -60,7 +60,8 @@ fn new_point<'f>(name: &'f Name, scope: &mut Scope<'f>, arg: &Arg) -> Result<Ref
     requires { meaning_in name.now scope.old.names ≡ None }
     ensures lines { scope.new.lines ≡ scope.old.lines }
     ensures circles { scope.new.circles ≡ scope.old.circles }
-    ensures value { Gives (λ r. (r, scope.new)) result (new_point name.entry.now scope.old arg.now) }
+    ensures value { Gives (λ r. (r, scope.new)) result
+        (new_point name.entry.now scope.old arg.now) }
 {
     let count = scope.points.len();
     if count as u64 >= MOST_POINTS {

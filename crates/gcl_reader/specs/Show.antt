@@ -43,8 +43,10 @@ abbrev pub SameOnLines : ℕ → List Command → List Command → Type 0
 SameOnLines line [] [] = Unit {0}
 SameOnLines line [] (d ∷ ds) = ⊥
 SameOnLines line (c ∷ cs) [] = ⊥
-SameOnLines line (c ∷ cs) (d ∷ ds) = (d.word ≡ c.word) × (values_of d ≡ values_of c) × (d.line ≡ line) × SameOnLines (line + 1) cs ds
+SameOnLines line (c ∷ cs) (d ∷ ds) =
+    (d.word ≡ c.word) × (values_of d ≡ values_of c) × (d.line ≡ line) × SameOnLines (line + 1) cs ds
 
 -- The spelling of fitting commands is read as the same words and values, command k on line k.
 abbrev pub ShownIsRead : Type 0
-ShownIsRead = (commands : List Command) → IsFitting commands → (again : List Command) × (file_of (show_text commands) ≡ Ok again) × SameOnLines 1 commands again
+ShownIsRead = (commands : List Command) → IsFitting commands →
+    (again : List Command) × (file_of (show_text commands) ≡ Ok again) × SameOnLines 1 commands again

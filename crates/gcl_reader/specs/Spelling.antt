@@ -50,8 +50,10 @@ SpellsCommand tokens c =
 -- The tokens are those of the commands, one behind the other.
 abbrev pub Spells : List Token → List Command → Type 0
 Spells tokens [] = tokens ≡ []
-Spells tokens (c ∷ cs) = (front : List Token) × (rest : List Token) × (tokens ≡ front ++ rest) × SpellsCommand front c × Spells rest cs
+Spells tokens (c ∷ cs) =
+    (front : List Token) × (rest : List Token) × (tokens ≡ front ++ rest) × SpellsCommand front c × Spells rest cs
 
 -- Fitting commands are read from each file whose tokens spell them.
 abbrev pub SpelledIsRead : Type 0
-SpelledIsRead = (bytes : List ℕ) (commands : List Command) → Spells (tokens bytes) commands → IsFitting commands → file_of bytes ≡ Ok commands
+SpelledIsRead = (bytes : List ℕ) (commands : List Command) →
+    Spells (tokens bytes) commands → IsFitting commands → file_of bytes ≡ Ok commands

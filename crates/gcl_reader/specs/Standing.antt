@@ -8,7 +8,8 @@ is_line_feed b = b == line_feed
 
 -- The token's text is in the file at its place, and its line is one more than the line feeds before it.
 abbrev pub StandsIn : List ℕ → Token → Type 0
-StandsIn bytes t = (t.text ≡ take (length t.text) (drop t.at bytes)) × (t.line ≡ 1 + count_by is_line_feed (take t.at bytes))
+StandsIn bytes t =
+    (t.text ≡ take (length t.text) (drop t.at bytes)) × (t.line ≡ 1 + count_by is_line_feed (take t.at bytes))
 
 -- All tokens of every file do.
 abbrev pub TokensStand : Type 0

@@ -116,7 +116,9 @@ sides = side.L ∷ side.R ∷ side.T ∷ side.B ∷ side.Lt ∷ side.Lb ∷ side
 
 -- The statements.
 abbrev pub statements : List Statement
-statements = statement.Identical ∷ statement.Collinear ∷ statement.Perpendicular ∷ statement.Parallel ∷ statement.Midpoint ∷ statement.SameLength ∷ []
+statements =
+    statement.Identical ∷ statement.Collinear ∷ statement.Perpendicular ∷ statement.Parallel ∷
+    statement.Midpoint ∷ statement.SameLength ∷ []
 
 -- The words that stand alone in front of their arguments.
 abbrev pub words : List Word

@@ -99,7 +99,11 @@ pub record Lexed : Type 0 where
 
 -- What is ahead of a place in a file.
 abbrev pub ahead_of : Mode → ℕ → ℕ → ℕ → List ℕ → Lexed
-ahead_of m line last at bytes = record { tokens = tokens_from m line at bytes; end_line = last_line line last bytes; end_at = at + length bytes }
+ahead_of m line last at bytes = record {
+  tokens = tokens_from m line at bytes;
+  end_line = last_line line last bytes;
+  end_at = at + length bytes;
+}
 
 -- A token in front of what is ahead of its end.
 abbrev pub put : Token → Lexed → Lexed

@@ -21,7 +21,8 @@ impl Model for Name {
 
     ghost view = { λ name. take name.len name.bytes };
 
-    ghost invariant = { λ name. (name.len ≤ LONGEST_NAME) × IsTrue (is_name (take name.len name.bytes)) };
+    ghost invariant = { λ name. (name.len ≤ LONGEST_NAME)
+        × IsTrue (is_name (take name.len name.bytes)) };
 }
 
 impl PartialEq for Name {
