@@ -12,9 +12,9 @@ use Rattle.fixed_point.specs.declared.curve.LineEq.{LineEq}
 use Rattle.fixed_point.specs.declared.curve.Round.{Round}
 use Rattle.circle_cut.specs.declared.limits.TheConstants.{MOST_SQUARE, MOST_CUT}
 use Rattle.circle_cut.specs.Vectors.{position, plus, scaled, rot, sq}
-use Rattle.circle_cut.specs.Lines.{normal}
+use Rattle.circle_cut.specs.Lines.{normal, offset}
 use Rattle.circle_cut.specs.Places.{over, rounded}
-use Rattle.circle_cut.specs.Cuts.{offset, discriminant, from_centre, cut_at}
+use Rattle.circle_cut.specs.Cuts.{discriminant, from_centre, cut_at}
 use Rattle.circle_cut.specs.Sizes.{IsRound, IsSpotWithin}
 use Rattle.circle_cut.proofs.Laid.{square-is, sq-is}
 
@@ -63,7 +63,7 @@ cut_within s k l round ge is =
     let n = normal l in
     let N = unsigned_abs n.x * unsigned_abs n.x + unsigned_abs n.y * unsigned_abs n.y in
     let q = unsigned_abs k.square in
-    let e = offset k l in
+    let e = offset k.centre l in
     let square : sq n ≡ pos N = sq-is n in
     let pq : k.square ≡ pos q = omega (arith, ints, round.from) in
     let p = parts N q e (discriminant k l) ((λ i. square i *ℤ pq i -ℤ e *ℤ e)) ge in

@@ -6,17 +6,13 @@ use Rattle.fixed_point.specs.declared.curve.LineEq.{LineEq}
 use Rattle.fixed_point.specs.declared.curve.Round.{Round}
 use Rattle.circle_cut.specs.declared.exact.Exact.{Exact}
 use Rattle.circle_cut.specs.declared.vector.Vector.{Vector}
-use Rattle.circle_cut.specs.Vectors.{position, plus, scaled, rot, dot, sq}
+use Rattle.circle_cut.specs.Vectors.{position, plus, scaled, rot, sq}
 use Rattle.circle_cut.specs.Places.{over, rounded}
-use Rattle.circle_cut.specs.Lines.{normal, radical, same_spot}
+use Rattle.circle_cut.specs.Lines.{normal, offset, radical, same_spot}
 
--- D = c - dot(n, O)
-unfoldable pub offset : Round → LineEq → ℤ
-offset k l = l.c -ℤ dot (normal l) (position k.centre)
-
--- sq(n) q - D D
+-- sq(n) q - D D, where D is the offset of the centre
 unfoldable pub discriminant : Round → LineEq → ℤ
-discriminant k l = sq (normal l) *ℤ k.square -ℤ offset k l *ℤ offset k l
+discriminant k l = sq (normal l) *ℤ k.square -ℤ offset k.centre l *ℤ offset k.centre l
 
 -- The root of the discriminant.
 unfoldable pub half_chord : Round → LineEq → ℤ
@@ -24,7 +20,7 @@ half_chord k l = pos (root (unsigned_abs (discriminant k l)))
 
 -- D n + s rot(n)
 unfoldable pub from_centre : ℤ → Round → LineEq → Vector
-from_centre s k l = plus (scaled (offset k l) (normal l)) (scaled s (rot (normal l)))
+from_centre s k l = plus (scaled (offset k.centre l) (normal l)) (scaled s (rot (normal l)))
 
 -- O + (D n + s rot(n)) / sq(n), over one denominator
 unfoldable pub cut_at : ℤ → Round → LineEq → Exact

@@ -5,7 +5,7 @@ use Rattle.fixed_point.specs.declared.spot.Spot.{Spot}
 use Rattle.fixed_point.specs.declared.curve.LineEq.{LineEq}
 use Rattle.fixed_point.specs.declared.curve.Round.{Round}
 use Rattle.circle_cut.specs.declared.vector.Vector.{Vector}
-use Rattle.circle_cut.specs.Vectors.{position, way, scaled, rot, sq}
+use Rattle.circle_cut.specs.Vectors.{position, way, scaled, rot, dot, sq}
 
 -- The normal n.
 unfoldable pub normal : LineEq → Vector
@@ -14,6 +14,10 @@ normal l = record { x = l.n1; y = l.n2 }
 -- The direction.
 unfoldable pub direction : LineEq → Vector
 direction l = record { x = l.v1; y = l.v2 }
+
+-- c - dot(n, A), which is 0 on the line.
+unfoldable pub offset : Spot → LineEq → ℤ
+offset a l = l.c -ℤ dot (normal l) (position a)
 
 -- The line dot(n, X) = c with the direction v.
 unfoldable pub line_with : Vector → ℤ → Vector → LineEq

@@ -1,30 +1,18 @@
 // The common points of a circle with a line and with a circle.
 ghost use Rattle.std.specs.Prelude.{◌≡◌, ◌≤◌, ◌*◌, ◌+◌, pos, ◌<ℤ◌, ◌≤ℤ◌, unsigned_abs};
 ghost use Rattle.edge_num.specs.Roots.{root};
-ghost use Rattle.circle_cut.specs.Cuts.{offset, discriminant, from_centre, cut_at, line_cuts, circle_cuts};
+ghost use Rattle.circle_cut.specs.Cuts.{discriminant, from_centre, cut_at, line_cuts, circle_cuts};
 ghost use Rattle.circle_cut.specs.Lines.{normal};
 ghost use Rattle.circle_cut.specs.Places.{rounded};
 ghost use Rattle.circle_cut.specs.Sizes.{IsWithin, IsPlain, IsRound, IsExact};
 ghost use Rattle.circle_cut.specs.Vectors.{sq};
 
 use crate::exact::{Exact, over, round};
-use crate::limits::{MOST_NORMAL, MOST_SQUARE, NORMAL_SQUARE, OFFSET};
-use crate::line::{normal, radical, same_spot};
+use crate::limits::{MOST_NORMAL, MOST_NORMAL_SQUARE, MOST_OFFSET, MOST_SQUARE};
+use crate::line::{normal, offset, radical, same_spot};
 use crate::vector::Vector;
 use edge_num::{MOST_ROOT, Whole};
 use fixed_point::{LineEq, MOST_TICKS, Round, Spot};
-
-// What the centre lacks to the constant term of the line.
-#[tactic(auto, unfolding(crate::specs::Cuts::offset))]
-fn offset(k: &Round, a: &LineEq) -> Whole
-    requires circle { IsRound k.now }
-    requires line { IsPlain a.now }
-    ensures value { result ≡ offset k.now a.now }
-    ensures size { unsigned_abs result ≤ OFFSET }
-{
-    let along = normal(a).dot::<MOST_NORMAL, MOST_TICKS>(&Vector::position(&k.centre));
-    Whole::new(a.c).minus(along)
-}
 
 #[tactic(auto, unfolding(crate::specs::Cuts::discriminant))]
 fn discriminant(k: &Round, a: &LineEq) -> Whole
@@ -32,10 +20,10 @@ fn discriminant(k: &Round, a: &LineEq) -> Whole
     requires line { IsPlain a.now }
     ensures value { result ≡ discriminant k.now a.now }
 {
-    let off = offset(k, a);
+    let off = offset(&k.centre, a);
     let square = normal(a).sq::<MOST_NORMAL>();
-    let reach = square.times::<NORMAL_SQUARE, MOST_SQUARE>(Whole::new(k.square));
-    reach.minus(off.times::<OFFSET, OFFSET>(off))
+    let reach = square.times::<MOST_NORMAL_SQUARE, MOST_SQUARE>(Whole::new(k.square));
+    reach.minus(off.times::<MOST_OFFSET, MOST_OFFSET>(off))
 }
 
 // From the centre to a common point, times the square of the normal's length.
@@ -45,10 +33,10 @@ fn from_centre(s: Whole, k: &Round, a: &LineEq) -> Vector
     requires circle { IsRound k.now }
     requires line { IsPlain a.now }
     ensures value { result ≡ from_centre s k.now a.now }
-    ensures size { IsWithin (OFFSET * MOST_NORMAL + MOST_ROOT * MOST_NORMAL) result }
+    ensures size { IsWithin (MOST_OFFSET * MOST_NORMAL + MOST_ROOT * MOST_NORMAL) result }
 {
     let n = normal(a);
-    let across = n.scaled::<OFFSET, MOST_NORMAL>(offset(k, a));
+    let across = n.scaled::<MOST_OFFSET, MOST_NORMAL>(offset(&k.centre, a));
     across.plus(&n.rot().scaled::<MOST_ROOT, MOST_NORMAL>(s))
 }
 
@@ -62,7 +50,7 @@ fn cut_at(s: Whole, k: &Round, a: &LineEq) -> Exact
     ensures exact { IsExact result }
 {
     let square = normal(a).sq::<MOST_NORMAL>();
-    let centre = Vector::position(&k.centre).scaled::<NORMAL_SQUARE, MOST_TICKS>(square);
+    let centre = Vector::position(&k.centre).scaled::<MOST_NORMAL_SQUARE, MOST_TICKS>(square);
     over(square, &centre.plus(&from_centre(s, k, a)))
 }
 

@@ -9,8 +9,10 @@ mod vector;
 
 pub use cut::{cut_circle, cut_line};
 pub use exact::{Exact, coordinates, over, over_signed, round};
-pub use limits::{MOST_CUT, MOST_NORMAL, MOST_PLACE, MOST_SPAN, MOST_SQUARE};
-pub use line::{direction, farther, line_with, midway, normal, same_spot};
+pub use limits::{
+    MOST_CUT, MOST_NORMAL, MOST_NORMAL_SQUARE, MOST_OFFSET, MOST_PLACE, MOST_SPAN, MOST_SQUARE,
+};
+pub use line::{direction, farther, line_with, midway, normal, offset, same_spot};
 pub use vector::Vector;
 
 #[cfg(test)]

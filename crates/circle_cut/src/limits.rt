@@ -16,8 +16,8 @@ pub const MOST_SQUARE: u64 = 8 * MOST_TICKS * MOST_TICKS;
 /// The greatest size of a coordinate of a common point.
 pub const MOST_CUT: u64 = 7 * MOST_TICKS;
 
-// The greatest square of a normal's length.
-pub(crate) const NORMAL_SQUARE: u64 = 2 * MOST_NORMAL * MOST_NORMAL;
+/// The greatest square of the length of a line's normal.
+pub const MOST_NORMAL_SQUARE: u64 = 2 * MOST_NORMAL * MOST_NORMAL;
 
-// The greatest size of what a centre lacks to the constant term of a line.
-pub(crate) const OFFSET: u64 = MOST_PLACE + 2 * MOST_NORMAL * MOST_TICKS;
+/// The greatest size of what a position lacks to the constant term of a line.
+pub const MOST_OFFSET: u64 = MOST_PLACE + 2 * MOST_NORMAL * MOST_TICKS;

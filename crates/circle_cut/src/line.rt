@@ -1,10 +1,10 @@
 // Lines and their numbers.
 ghost use Rattle.std.specs.Prelude.{◌≡◌, ◌≤◌, ◌*◌, pos, ◌<ℤ◌, ◌≤ℤ◌, unsigned_abs, false};
-ghost use Rattle.circle_cut.specs.Lines.{normal, direction, line_with, midway, farther, radical, same_spot};
-ghost use Rattle.circle_cut.specs.Sizes.{IsWithin, IsNear, IsSpan, IsLaid, IsRound};
+ghost use Rattle.circle_cut.specs.Lines.{normal, direction, offset, line_with, midway, farther, radical, same_spot};
+ghost use Rattle.circle_cut.specs.Sizes.{IsWithin, IsNear, IsPlain, IsSpan, IsLaid, IsRound};
 ghost use Rattle.circle_cut.specs.Vectors.{position, sq, way};
 
-use crate::limits::{MOST_NORMAL, MOST_PLACE};
+use crate::limits::{MOST_NORMAL, MOST_OFFSET, MOST_PLACE};
 use crate::vector::Vector;
 use edge_num::Whole;
 use fixed_point::{LineEq, MOST_TICKS, Round, Spot};
@@ -33,6 +33,18 @@ pub fn direction(l: &LineEq) -> Vector
         x: Whole::new(l.v1 as i128),
         y: Whole::new(l.v2 as i128),
     }
+}
+
+/// What a spot lacks to the constant term of a line, `c - dot(n, a)`.
+#[tactic(auto, unfolding(crate::specs::Lines::offset))]
+pub fn offset(a: &Spot, l: &LineEq) -> Whole
+    requires near { IsNear a.now }
+    requires line { IsPlain l.now }
+    ensures value { result ≡ offset a.now l.now }
+    ensures size { unsigned_abs result ≤ MOST_OFFSET }
+{
+    let along = normal(l).dot::<MOST_NORMAL, MOST_TICKS>(&Vector::position(a));
+    Whole::new(l.c).minus(along)
 }
 
 /// The line `dot(n, X) = c` with the direction `v`.

@@ -8,7 +8,7 @@ use Rattle.circle_cut.specs.declared.vector.Vector.{Vector}
 use Rattle.circle_cut.specs.declared.exact.Exact.{Exact}
 use Rattle.circle_cut.specs.Vectors.{position, way, plus, scaled, rot, dot, cross, sq}
 use Rattle.circle_cut.specs.Places.{over, over_signed}
-use Rattle.circle_cut.specs.Lines.{normal, line_with, midway, farther}
+use Rattle.circle_cut.specs.Lines.{normal, offset, line_with, midway, farther}
 use Rattle.construct.specs.declared.limits.TheConstants.{MILLION, ROUND_PARTS}
 
 -- A point with two numbers of ticks.
@@ -27,13 +27,9 @@ moved a b c = over (pos 1) (plus (position c) (way a b))
 unfoldable pub part_way : ℤ → ℤ → Spot → Spot → Exact
 part_way n d a b = over d (plus (scaled d (position a)) (scaled n (way a b)))
 
--- c - dot(n, A)
-unfoldable pub lack : Spot → LineEq → ℤ
-lack a l = l.c -ℤ dot (normal l) (position a)
-
 -- A + (c - dot(n, A)) n / sq(n)
 unfoldable pub foot : Spot → LineEq → Exact
-foot a l = over (sq (normal l)) (plus (scaled (sq (normal l)) (position a)) (scaled (lack a l) (normal l)))
+foot a l = over (sq (normal l)) (plus (scaled (sq (normal l)) (position a)) (scaled (offset a l) (normal l)))
 
 -- (c m2 - n2 e, n1 e - c m1), for the lines (n, c) and (m, e)
 unfoldable pub meet_top : LineEq → LineEq → Vector

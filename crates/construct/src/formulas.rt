@@ -4,12 +4,12 @@ ghost use Rattle.fixed_point.specs.Ticks.{ticks_of};
 ghost use Rattle.circle_cut.specs.Sizes.{IsWithin, IsExact, IsPlain, IsNear, IsSpan, IsLaid, IsRound};
 ghost use Rattle.circle_cut.specs.Lines.{normal};
 ghost use Rattle.circle_cut.specs.Vectors.{sq, way};
-ghost use Rattle.construct.specs.Formulas.{at_ticks, middle, moved, part_way, lack, foot, meet_top, meet, turned, on_circle, through, across, bisector, circle};
+ghost use Rattle.construct.specs.Formulas.{at_ticks, middle, moved, part_way, foot, meet_top, meet, turned, on_circle, through, across, bisector, circle};
 
-use crate::limits::{CYCLE, MILLION, NORMAL_SQUARE, OFFSET, ROUND_PARTS, WEIGHT};
+use crate::limits::{CYCLE, MILLION, ROUND_PARTS, WEIGHT};
 use circle_cut::{
-    Exact, MOST_NORMAL, MOST_PLACE, MOST_SPAN, Vector, farther, line_with, midway, normal, over,
-    over_signed,
+    Exact, MOST_NORMAL, MOST_NORMAL_SQUARE, MOST_OFFSET, MOST_PLACE, MOST_SPAN, Vector, farther,
+    line_with, midway, normal, offset, over, over_signed,
 };
 use edge_num::Whole;
 use fixed_point::{Fix, LineEq, MOST_MILLIONTHS, MOST_TICKS, Round, Spot, ticks};
@@ -63,17 +63,6 @@ pub fn part_way(n: Whole, d: Whole, a: &Spot, b: &Spot) -> Exact
     )
 }
 
-// What a position lacks to the constant term of a line.
-#[tactic(auto, unfolding(crate::specs::Formulas::lack))]
-fn lack(a: &Spot, l: &LineEq) -> Whole
-    requires near { IsNear a.now }
-    requires line { IsPlain l.now }
-    ensures value { result ≡ lack a.now l.now }
-    ensures size { unsigned_abs result ≤ OFFSET }
-{
-    Whole::new(l.c).minus(normal(l).dot::<MOST_NORMAL, MOST_TICKS>(&Vector::position(a)))
-}
-
 #[tactic(auto, unfolding(crate::specs::Formulas::foot))]
 pub fn foot(a: &Spot, l: &LineEq) -> Exact
     requires near { IsNear a.now }
@@ -84,11 +73,9 @@ pub fn foot(a: &Spot, l: &LineEq) -> Exact
 {
     let n = normal(l);
     let square = n.sq::<MOST_NORMAL>();
-    let from = Vector::position(a).scaled::<NORMAL_SQUARE, MOST_TICKS>(square);
-    over(
-        square,
-        &from.plus(&n.scaled::<OFFSET, MOST_NORMAL>(lack(a, l))),
-    )
+    let from = Vector::position(a).scaled::<MOST_NORMAL_SQUARE, MOST_TICKS>(square);
+    let aside = n.scaled::<MOST_OFFSET, MOST_NORMAL>(offset(a, l));
+    over(square, &from.plus(&aside))
 }
 
 // What stands above the determinant of two lines.

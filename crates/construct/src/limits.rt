@@ -1,7 +1,4 @@
 // The numbers by which points are placed.
-use circle_cut::{MOST_NORMAL, MOST_PLACE, MOST_SPAN};
-use fixed_point::MOST_TICKS;
-
 /// How many millionths are one.
 pub const MILLION: u64 = 1_000_000;
 
@@ -16,12 +13,6 @@ pub const CYCLE: u64 = 997;
 
 // How many parts the way round a semi-free point of a circle has: twice the root of a million.
 pub(crate) const ROUND_PARTS: u64 = 2 * PARTS;
-
-// The greatest square of a normal's length.
-pub(crate) const NORMAL_SQUARE: u64 = 2 * MOST_NORMAL * MOST_NORMAL;
-
-// The greatest size of what a position lacks to the constant term of a line.
-pub(crate) const OFFSET: u64 = MOST_PLACE + 2 * MOST_NORMAL * MOST_TICKS;
 
 // The greatest size of the numbers beside a semi-free point of a circle.
 pub(crate) const WEIGHT: u64 = 2 * MILLION;
