@@ -2,3 +2,5 @@ pub mod Steps
 pub mod Merging
 pub mod Raising
 pub mod Outcomes
+pub mod Changing
+pub mod PieceLaws
