@@ -4,3 +4,4 @@ pub mod Raising
 pub mod Outcomes
 pub mod Changing
 pub mod PieceLaws
+pub mod Reading

@@ -2,13 +2,21 @@
 #![tactic(auto)]
 
 mod change;
+mod contents;
+mod copies;
 mod degrees;
 mod exponents;
+mod parts;
 mod poly;
 mod product;
+mod reads;
 mod rows;
 mod sums;
 
+pub use contents::prim;
+pub use copies::{copy_in, copy_out};
 pub use degrees::{degrees_fit, mul};
+pub use parts::{coefficient, copy, initial, shift, tail};
 pub use poly::Poly;
+pub use reads::{class, degree, same};
 pub use sums::{add, sub};

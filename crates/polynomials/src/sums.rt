@@ -9,8 +9,8 @@ ghost use Rattle.poly_model.specs.Bounded.{multiple, bounded_sum, bounded_differ
 ghost use Rattle.poly_model.proofs.Within.{all_low};
 ghost use Rattle.polynomials.specs.Held.{Outcome, polynomial_at, IsPoly, Answers, Gives};
 
-use crate::poly::Poly;
 use crate::change::{Negated, changed};
+use crate::poly::Poly;
 use crate::rows::merge;
 use poly_model::{Limit, MOST_TERMS};
 use term_store::{Slot, TermStore};

@@ -70,7 +70,7 @@ returns-in-Ok g c =
     let minus = c.changed-minus.ensures.value ∙ pieces-negated q in
     let kept = ap polynomial_of (making.makes-other _ _ _ _ c.changed-minus.ensures.made c.requires.a.live) in
     let outcome = subst (λ r. Outcome t u r (bounded_difference p q)) c.in-Ok.is
-        (subst (Outcome t u c.sum_in-outcome.result) (λ i. bounded_sum (kept i) (minus i)) c.sum_in-outcome.ensures) in
+    (subst (Outcome t u c.sum_in-outcome.result) (λ i. bounded_sum (kept i) (minus i)) c.sum_in-outcome.ensures) in
     let freed = outcomes.outcome-freed s t u v c.changed-minus.result.0 (Ok c.in-Ok.slot) (bounded_difference p q) c.changed-minus.ensures.made outcome c.free.ensures.lists c.free.ensures.spare in
     outcomes.answers-of s v c.in-Ok.slot (bounded_difference p q) freed (λ r e. bounded_difference-standard p q r c.requires.a.standard c.requires.b.standard e)
 
@@ -85,6 +85,6 @@ returns-in-Err g c =
     let minus = c.changed-minus.ensures.value ∙ pieces-negated q in
     let kept = ap polynomial_of (making.makes-other _ _ _ _ c.changed-minus.ensures.made c.requires.a.live) in
     let outcome = subst (λ r. Outcome t u r (bounded_difference p q)) c.in-Err.is
-        (subst (Outcome t u c.sum_in-outcome.result) (λ i. bounded_sum (kept i) (minus i)) c.sum_in-outcome.ensures) in
+    (subst (Outcome t u c.sum_in-outcome.result) (λ i. bounded_sum (kept i) (minus i)) c.sum_in-outcome.ensures) in
     let freed = outcomes.outcome-freed s t u v c.changed-minus.result.0 (Err c.in-Err.limit) (bounded_difference p q) c.changed-minus.ensures.made outcome c.free.ensures.lists c.free.ensures.spare in
     outcomes.answers-limit s v c.in-Err.limit (bounded_difference p q) freed
