@@ -5,3 +5,4 @@ pub mod Outcomes
 pub mod Changing
 pub mod PieceLaws
 pub mod Reading
+pub mod Results
