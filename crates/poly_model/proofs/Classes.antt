@@ -10,7 +10,7 @@ use Rattle.poly_model.specs.Content.{entries_divided, begins_negative, coefficie
 use Rattle.poly_model.specs.Reduction.{degree_at, monomial_class, class_of, coefficient_at, main_place, main_degree, initial_of, primitive_initial}
 use Rattle.poly_model.proofs.Front.{class_by, class-is}
 
-degree-coefficient : (i d : ℕ) (p : Polynomial) → degree_at i (coefficient_at i d p) ≡ 0
+pub degree-coefficient : (i d : ℕ) (p : Polynomial) → degree_at i (coefficient_at i d p) ≡ 0
 degree-coefficient i d [] = refl
 degree-coefficient i d ((es, c) ∷ p) =
     elim (get_or es i 0 == d) as (λ b. degree_at i (cond b ((set es i 0, c) ∷ coefficient_at i d p) (coefficient_at i d p)) ≡ 0) [

@@ -77,7 +77,7 @@ primitive_part-again p some =
     (λ i. entries_divided (begins_not_negative (coefficients_gcd p) p i) (primitive_part-gcd p some i) (primitive_part p)) ∙ divided_by_one (primitive_part p)
 
 -- The coefficients of a list in order have a divisor above 0.
-divisor_some : (n : ℕ) (es : List ℕ) (c : ℤ) (p : Polynomial) → IsDescending n ((es, c) ∷ p) → 0 < coefficients_gcd ((es, c) ∷ p)
+pub divisor_some : (n : ℕ) (es : List ℕ) (c : ℤ) (p : Polynomial) → IsDescending n ((es, c) ∷ p) → 0 < coefficients_gcd ((es, c) ∷ p)
 divisor_some n es c p h = positive (unsigned_abs c) (coefficients_gcd ((es, c) ∷ p)) (some c h.1) (gcd-is (unsigned_abs c) (coefficients_gcd p)).0
   where
     some : (c : ℤ) → c ≢ pos 0 → 0 < unsigned_abs c

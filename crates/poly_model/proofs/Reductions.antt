@@ -6,7 +6,7 @@ use Rattle.poly_model.specs.Ring as ring
 use Rattle.poly_model.specs.Values as values
 use Rattle.poly_model.specs.Polynomial.{Polynomial, IsDescending, value_at, poly_product, poly_difference}
 use Rattle.poly_model.specs.Reduction.{main_place, main_degree, degree_at, coefficient_at, initial_of, tail_of, factor_of, cross_difference, parts_of, reduction_of}
-use Rattle.poly_model.specs.Bounded.{degrees_fit, bounded_rows, bounded_difference, and_then, bounded_reduction}
+use Rattle.poly_model.specs.Bounded.{degrees_fit, bounded_rows, bounded_difference, and_then, bounded_cross, bounded_reduction}
 use Rattle.poly_model.specs.declared.limits.Limit.{Limit}
 use Rattle.poly_model.specs.declared.limits.Limit.TheVariants.{Degree}
 use Rattle.poly_model.proofs.Ordered.{descending-product, descending-difference}
@@ -36,27 +36,31 @@ pub then-is : {A B : Type 0} (a : Result A Limit) (next : A → Result B Limit) 
 then-is (Ok x) next b e = (x, refl, e)
 then-is (Err limit) next b e = absurd (cc)
 
-pub bounded_reduction-is : (n : ℕ) (g f : Polynomial) (r : ℤ × Polynomial) → IsDescending n g → IsDescending n f → bounded_reduction g f ≡ Ok r → r ≡ reduction_of g f
-bounded_reduction-is n g f r hg hf is =
-    elim (degrees_fit (initial_of f) g && degrees_fit (factor_of g f) f) as (λ b. elim b as (λ _. Result (ℤ × Polynomial) Limit) [
+pub bounded_cross-is : (n : ℕ) (a p b q t : Polynomial) → IsDescending n a → IsDescending n p → IsDescending n b → IsDescending n q → bounded_cross a p b q ≡ Ok t
+    → t ≡ poly_difference (poly_product a p) (poly_product b q)
+bounded_cross-is n a p b q t ha hp hb hq is =
+    elim (degrees_fit a p && degrees_fit b q) as (λ w. elim w as (λ _. Result Polynomial Limit) [
       | false ↦ Err Degree
-      | true ↦ and_then (bounded_rows (initial_of f) g []) (λ first. and_then (bounded_rows (factor_of g f) f []) (λ second. and_then (bounded_difference first second) (λ t. Ok (parts_of t))))
-    ] ≡ Ok r → r ≡ reduction_of g f) [
+      | true ↦ and_then (bounded_rows a p []) (λ first. and_then (bounded_rows b q []) (λ second. bounded_difference first second))
+    ] ≡ Ok t → t ≡ poly_difference (poly_product a p) (poly_product b q)) [
       | false ↦ λ e. absurd (cc)
       | true ↦ λ e.
-          let i = descending-initial n f hf in
-          let c = descending-factor n g f hg in
-          let one = then-is _ _ r e in
-          let two = then-is _ _ r one.2 in
-          let three = then-is _ _ r two.2 in
-          let first : one.0 ≡ poly_product (initial_of f) g = bounded_rows-are (initial_of f) g [] one.0 one.1 ∙ rows-are n (initial_of f) g i hg in
-          let second : two.0 ≡ poly_product (factor_of g f) f = bounded_rows-are (factor_of g f) f [] two.0 two.1 ∙ rows-are n (factor_of g f) f c hf in
-          let t : three.0 ≡ poly_difference one.0 two.0 = within-is (poly_difference one.0 two.0) three.0 three.1 in
-          sym (ok_is (parts_of three.0) r three.2) ∙ ap parts_of (t ∙ (λ j. poly_difference (first j) (second j)))
+          let one = then-is _ _ t e in
+          let two = then-is _ _ t one.2 in
+          let first : one.0 ≡ poly_product a p = bounded_rows-are a p [] one.0 one.1 ∙ rows-are n a p ha hp in
+          let second : two.0 ≡ poly_product b q = bounded_rows-are b q [] two.0 two.1 ∙ rows-are n b q hb hq in
+          within-is (poly_difference one.0 two.0) t two.2 ∙ (λ j. poly_difference (first j) (second j))
     ] is
-  where
-    ok_is : (a b : ℤ × Polynomial) → ◌≡◌ {A = Result (ℤ × Polynomial) Limit} (Ok a) (Ok b) → a ≡ b
-    ok_is a b e = cc
+
+-- the result of a step that has one
+pub ok-is : {A : Type 0} (a b : A) → ◌≡◌ {A = Result A Limit} (Ok a) (Ok b) → a ≡ b
+ok-is a b e = cc
+
+pub bounded_reduction-is : (n : ℕ) (g f : Polynomial) (r : ℤ × Polynomial) → IsDescending n g → IsDescending n f → bounded_reduction g f ≡ Ok r → r ≡ reduction_of g f
+bounded_reduction-is n g f r hg hf is =
+    let cross = then-is _ _ r is in
+    sym (ok-is (parts_of cross.0) r cross.2)
+    ∙ ap parts_of (bounded_cross-is n (initial_of f) g (factor_of g f) f cross.0 (descending-initial n f hf) hg (descending-factor n g f hg) hf cross.1)
 
 module _ {M : Type 0} {o : Operations M} (L : IsDomain o) where
   abbrev v : Polynomial → List M → M

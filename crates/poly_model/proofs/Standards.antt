@@ -9,7 +9,7 @@ use Rattle.poly_model.specs.Polynomial.{Polynomial, poly_negative}
 use Rattle.poly_model.specs.Standard.{is_standard, are_low, is_bounded, are_bounded}
 use Rattle.poly_model.specs.Content.{primitive_part, entries_divided, begins_negative, coefficients_gcd, signed_by, quotient_of}
 use Rattle.poly_model.specs.Reduction.{degree_at, coefficient_at, without_degree, shifted, main_place, main_degree, initial_of, tail_of, factor_of, parts_of}
-use Rattle.poly_model.specs.Bounded.{degrees_fit, bounded_rows, bounded_difference, bounded_shift, and_then, bounded_reduction}
+use Rattle.poly_model.specs.Bounded.{degrees_fit, bounded_rows, bounded_difference, bounded_shift, and_then, bounded_cross, bounded_reduction}
 use Rattle.poly_model.specs.declared.limits.TheConstants.{MOST_VARIABLES, MOST_DEGREE, MOST_SIZE, MOST_TERMS}
 use Rattle.poly_model.specs.declared.limits.Limit.{Limit}
 use Rattle.poly_model.specs.declared.limits.Limit.TheVariants.{Degree}
@@ -17,7 +17,7 @@ use Rattle.poly_model.proofs.Ordered.{descending-negative, descending-primitive_
 use Rattle.poly_model.proofs.Within.{Within, within-of, standard-of, all_low, bounded_product-standard, bounded_sum-standard}
 use Rattle.poly_model.proofs.Adding.{low-at}
 use Rattle.poly_model.proofs.Parts.{descending-part, descending-without, descending-shifted}
-use Rattle.poly_model.proofs.Reductions.{then-is}
+use Rattle.poly_model.proofs.Reductions.{then-is, ok-is}
 
 -- ---- parts
 set-low : (es : List ℕ) (i k : ℕ) → are_low es ≡ true → k ≤ MOST_DEGREE → are_low (set es i k) ≡ true
@@ -163,30 +163,30 @@ product-standard : (P Q r : Polynomial) → Within P → Within Q → degrees_fi
 product-standard P Q r p q fit e =
     bounded_product-standard P Q r (standard-of P p) (standard-of Q q) (ap (λ b. elim b as (λ _. Result Polynomial Limit) [ false ↦ Err Degree | true ↦ bounded_rows P Q [] ]) fit ∙ e)
 
-pub bounded_reduction-standard : (g f : Polynomial) (r : ℤ × Polynomial) → Within g → Within f → bounded_reduction g f ≡ Ok r → is_standard r.1 ≡ true
-bounded_reduction-standard g f r hg hf is =
-    elim (degrees_fit (initial_of f) g && degrees_fit (factor_of g f) f) as (λ b. (degrees_fit (initial_of f) g && degrees_fit (factor_of g f) f) ≡ b → elim b as (λ _. Result (ℤ × Polynomial) Limit) [
+pub bounded_cross-standard : (a p b q t : Polynomial) → Within a → Within p → Within b → Within q → bounded_cross a p b q ≡ Ok t → is_standard t ≡ true
+bounded_cross-standard a p b q t ha hp hb hq is =
+    elim (degrees_fit a p && degrees_fit b q) as (λ w. (degrees_fit a p && degrees_fit b q) ≡ w → elim w as (λ _. Result Polynomial Limit) [
       | false ↦ Err Degree
-      | true ↦ and_then (bounded_rows (initial_of f) g []) (λ first. and_then (bounded_rows (factor_of g f) f []) (λ second. and_then (bounded_difference first second) (λ t. Ok (parts_of t))))
-    ] ≡ Ok r → is_standard r.1 ≡ true) [
+      | true ↦ and_then (bounded_rows a p []) (λ first. and_then (bounded_rows b q []) (λ second. bounded_difference first second))
+    ] ≡ Ok t → is_standard t ≡ true) [
       | false ↦ λ d e. absurd (cc)
       | true ↦ λ d e.
-          let i = initial-within f hf in
-          let c = factor-within g f hg in
-          let one = then-is _ _ r e in
-          let two = then-is _ _ r one.2 in
-          let three = then-is _ _ r two.2 in
-          let a = product-standard (initial_of f) g one.0 i hg (and_parts (degrees_fit (initial_of f) g) _ d).0 one.1 in
-          let b = product-standard (factor_of g f) f two.0 c hf (and_parts (degrees_fit (initial_of f) g) _ d).1 two.1 in
-          let t = bounded_sum-standard one.0 (poly_negative two.0) three.0 a (standard-of _ (negative-within two.0 (within-of two.0 b))) three.1 in
-          subst (λ (q : ℤ × Polynomial). is_standard q.1 ≡ true) (ok_is (parts_of three.0) r three.2) (parts-standard three.0 t)
+          let fit = and_parts (degrees_fit a p) (degrees_fit b q) d in
+          let one = then-is _ _ t e in
+          let two = then-is _ _ t one.2 in
+          let first = product-standard a p one.0 ha hp fit.0 one.1 in
+          let second = product-standard b q two.0 hb hq fit.1 two.1 in
+          bounded_sum-standard one.0 (poly_negative two.0) t first (standard-of _ (negative-within two.0 (within-of two.0 second))) two.2
     ] refl is
-  where
-    ok_is : (a b : ℤ × Polynomial) → ◌≡◌ {A = Result (ℤ × Polynomial) Limit} (Ok a) (Ok b) → a ≡ b
-    ok_is a b e = cc
 
-    parts-standard : (t : Polynomial) → is_standard t ≡ true → is_standard (parts_of t).1 ≡ true
-    parts-standard t s = standard-of (primitive_part t) (primitive-within t (within-of t s))
+pub parts-standard : (t : Polynomial) → is_standard t ≡ true → is_standard (parts_of t).1 ≡ true
+parts-standard t s = standard-of (primitive_part t) (primitive-within t (within-of t s))
+
+pub bounded_reduction-standard : (g f : Polynomial) (r : ℤ × Polynomial) → Within g → Within f → bounded_reduction g f ≡ Ok r → is_standard r.1 ≡ true
+bounded_reduction-standard g f r hg hf is =
+    let cross = then-is _ _ r is in
+    let t = bounded_cross-standard (initial_of f) g (factor_of g f) f cross.0 (initial-within f hf) hg (factor-within g f hg) hf cross.1 in
+    subst (λ (q : ℤ × Polynomial). is_standard q.1 ≡ true) (ok-is (parts_of cross.0) r cross.2) (parts-standard cross.0 t)
 
 -- ---- the other terms, and products with a power that fit
 without-bounded : (i d : ℕ) (p : Polynomial) → are_bounded p ≡ true → are_bounded (without_degree i d p) ≡ true

@@ -65,13 +65,15 @@ abbrev pub and_then : {A B : Type 0} → Result A Limit → (A → Result B Limi
 and_then (Ok a) next = next a
 and_then (Err limit) next = Err limit
 
--- The elementary reduction of g by f, or the limit met first: the degrees of both products, then the rows of the first,
--- those of the second, and then the difference.
-abbrev pub bounded_reduction : Polynomial → Polynomial → Result (ℤ × Polynomial) Limit
-bounded_reduction g f =
-    elim (degrees_fit (initial_of f) g && degrees_fit (factor_of g f) f) [
+-- The difference of two products, or the limit met first: the degrees of both, then the rows of the first, those of the
+-- second, and then the difference.
+abbrev pub bounded_cross : Polynomial → Polynomial → Polynomial → Polynomial → Result Polynomial Limit
+bounded_cross a p b q =
+    elim (degrees_fit a p && degrees_fit b q) [
       | false ↦ Err Degree
-      | true ↦ and_then (bounded_rows (initial_of f) g []) (λ first.
-          and_then (bounded_rows (factor_of g f) f []) (λ second.
-          and_then (bounded_difference first second) (λ t. Ok (parts_of t))))
+      | true ↦ and_then (bounded_rows a p []) (λ first. and_then (bounded_rows b q []) (λ second. bounded_difference first second))
     ]
+
+-- The elementary reduction of g by f, or the limit met first.
+abbrev pub bounded_reduction : Polynomial → Polynomial → Result (ℤ × Polynomial) Limit
+bounded_reduction g f = and_then (bounded_cross (initial_of f) g (factor_of g f) f) (λ t. Ok (parts_of t))

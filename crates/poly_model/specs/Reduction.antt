@@ -1,6 +1,6 @@
 -- Class, degree, initial and tail of a polynomial, and the elementary reduction of one polynomial by another. Variables
 -- are counted from 1 as classes, and from 0 as places of exponents: class x is at place x - 1.
-use Rattle.std.specs.Prelude.{ℕ, zero, suc, ◌+◌, ◌-◌, max, ℤ, pos, List, [], ◌∷◌, get_or, set, map, Bool, true, false, cond, if◌then◌else◌, ◌&&◌, not, ◌==◌}
+use Rattle.std.specs.Prelude.{ℕ, zero, suc, ◌+◌, ◌-◌, max, ℤ, pos, List, [], ◌∷◌, get_or, set, map, Bool, true, false, cond, if◌then◌else◌, ◌&&◌, not, ◌==◌, nat_le}
 use Rattle.std.specs.List.{list_any}
 use Rattle.std.specs.Ordering.{int_eq, is_eq}
 use Rattle.poly_model.specs.Domain.{integers}
@@ -72,6 +72,10 @@ initial_of p = coefficient_at (main_place p) (main_degree p) p
 
 abbrev pub tail_of : Polynomial → Polynomial
 tail_of p = without_degree (main_place p) (main_degree p) p
+
+-- g reaches the degree of f in the greatest variable of f.
+abbrev pub reaches : Polynomial → Polynomial → Bool
+reaches g f = nat_le (main_degree f) (degree_at (main_place f) g)
 
 abbrev pub primitive_initial : Polynomial → Polynomial
 primitive_initial p = primitive_part (initial_of p)

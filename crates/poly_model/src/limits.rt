@@ -1,3 +1,6 @@
+ghost use Rattle.std.specs.Prelude.{◌≡◌};
+ghost use Rattle.poly_model.specs.Reasons.{reason_of};
+
 /// The most variables of a problem, and so the number of exponents of each term.
 pub const MOST_VARIABLES: usize = 48;
 
@@ -58,4 +61,29 @@ pub enum Limit {
     Bound,
     /// There are more terms than the most.
     Terms,
+}
+
+/// Why work on a polynomial or a node stops before its end: a limit, the letters of the path, or the fuel.
+#[derive(Clone, Copy, Debug, PartialEq, Eq)]
+pub enum Reason {
+    Degree,
+    Bound,
+    Terms,
+    /// The path has the most letters.
+    Depth,
+    /// The fuel that is left does not suffice.
+    Fuel,
+}
+
+impl Limit {
+    /// The limit as a reason.
+    pub fn reason(self) -> Reason
+        ensures { result ≡ reason_of self }
+    {
+        match self {
+            Limit::Degree => Reason::Degree,
+            Limit::Bound => Reason::Bound,
+            Limit::Terms => Reason::Terms,
+        }
+    }
 }

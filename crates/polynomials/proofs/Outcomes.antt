@@ -1,12 +1,14 @@
 -- Outcomes of bounded arithmetic in a store.
-use Rattle.std.proofs.Common.{◌≡◌, ◌+◌, ◌<◌, ◌≤◌, ℕ, List, [], ◌∷◌, length, refl, sym, ◌∙◌, ap, subst, arith, true, false, nat_le}
+use Rattle.std.proofs.Common.{suc, ◌≡◌, ◌+◌, ◌<◌, ◌≤◌, ℕ, List, [], ◌∷◌, length, refl, sym, ◌∙◌, ap, subst, arith, true, false, nat_le}
 use Rattle.std.specs.Prelude.{ℤ, Result, Ok, Err}
 use Rattle.std.specs.FinMap.{remove}
 use Rattle.std.proofs.lemmas.Bool.Decides.{nat_tests}
-use Rattle.poly_model.specs.Polynomial.{Polynomial, IsDescending, poly_sum}
+use Rattle.poly_model.specs.Polynomial.{Polynomial, IsDescending, poly_sum, poly_negative}
 use Rattle.poly_model.proofs.Ordered.{descending-add_multiple}
 use Rattle.poly_model.proofs.Rows.{row-is, add_multiple-is}
-use Rattle.poly_model.proofs.Within.{row-parts}
+use Rattle.poly_model.proofs.Within.{row-parts, within-of}
+use Rattle.std.proofs.lemmas.Bool.{leb-true}
+use Rattle.polynomials.proofs.Steps.{polynomial-length}
 use Rattle.poly_model.specs.Standard.{polynomial_of}
 use Rattle.poly_model.specs.declared.limits.TheConstants.{MOST_TERMS, MOST_VARIABLES}
 use Rattle.term_store.specs.States.{State, IsLive, list_at}
@@ -19,7 +21,7 @@ use Rattle.poly_model.specs.Standard.{are_bounded}
 use Rattle.poly_model.specs.Bounded.{within_limits, bounded_sum, multiple, bounded_row, bounded_rows, bounded_product, degrees_fit}
 use Rattle.poly_model.specs.Standard.{is_standard}
 use Rattle.polynomials.specs.declared.poly.Poly.{Poly}
-use Rattle.polynomials.specs.Held.{Outcome, Answers, slot_of, polynomial_at}
+use Rattle.polynomials.specs.Held.{Outcome, Answers, Gives, slot_of, polynomial_at}
 
 pub within-bound : (p : Polynomial) → are_bounded p ≡ false → within_limits p ≡ Err Bound
 within-bound p e = ap (λ b. elim b as (λ _. Result Polynomial Limit) [ false ↦ Err Bound | true ↦ elim (nat_le (length p) MOST_TERMS) [ false ↦ Err Terms | true ↦ Ok p ] ]) e
@@ -64,6 +66,14 @@ given-up s t u v w k m (Ok r) (Ok p) a live o vl vs wl ws =
 given-up s t u v w k m (Ok r) (Err l) a live o vl vs wl ws = o
 given-up s t u v w k m (Err x) (Ok p) a live o vl vs wl ws = o
 given-up s t u v w k m (Err x) (Err l) a live o vl vs wl ws = (o.0, making.keeps-given_up s v w m (making.keeps-freed s t u v k a o.1 vl vs) wl ws)
+
+-- a list made before is given up
+pub outcome-freed : (s t u v : State) (k : ℕ) (result : Result Slot Limit) (whole : Result Polynomial Limit) → Makes s t k → Outcome t u result whole
+    → v.lists ≡ remove u.lists k → v.spare ≡ u.spare + (length (list_at u.lists k) + 1) → Outcome s v result whole
+outcome-freed s t u v k (Ok r) (Ok p) a o vl vs = (making.makes-swapped s t u v k r.0 a o.0 vl vs, ap polynomial_of (making.makes-swapped-at s t u v k r.0 a o.0 vl) ∙ o.1)
+outcome-freed s t u v k (Ok r) (Err l) a o vl vs = o
+outcome-freed s t u v k (Err x) (Ok p) a o vl vs = o
+outcome-freed s t u v k (Err x) (Err l) a o vl vs = (o.0, making.keeps-freed s t u v k a o.1 vl vs)
 
 pub outcome-live : (s t : State) (j : ℕ) (result : Result Slot Limit) (whole : Result Polynomial Limit) → Outcome s t result whole → IsLive s.lists j → IsLive t.lists j
 outcome-live s t j (Ok r) (Ok p) o live = making.makes-other-live s t r.0 j o.0 live
@@ -129,3 +139,19 @@ answers-of s t r (Err l) o h = o
 pub answers-limit : (s t : State) (l : Limit) (whole : Result Polynomial Limit) → Outcome s t (Err l) whole → Answers s t (Err l) whole
 answers-limit s t l (Ok p) o = o
 answers-limit s t l (Err m) o = o
+
+-- a polynomial within the limits in a new list
+pub gives : (s t : State) (r : Slot) (p : Polynomial) → Makes s t r.0 → polynomial_of (list_at t.lists r.0) ≡ p → is_standard p ≡ true → Gives s t record { slot = r } p
+gives s t r p m v h = record { makes = m; value = v; standard = h }
+
+-- what is within the limits has few terms
+pub few : (s : State) (k : ℕ) → is_standard (polynomial_of (list_at s.lists k)) ≡ true → length (list_at s.lists k) ≤ MOST_TERMS
+few s k h =
+    let short = (within-of (polynomial_of (list_at s.lists k)) h).short in
+    let l = leb-true (length (polynomial_of (list_at s.lists k))) MOST_TERMS short in
+    let e = polynomial-length (list_at s.lists k) in
+    omega (arith, l, e)
+
+pub negative-long : (p : Polynomial) → length (poly_negative p) ≡ length p
+negative-long [] = refl
+negative-long ((es, c) ∷ p) = ap suc (negative-long p)

@@ -119,3 +119,9 @@ pub entry-at : (n : ℕ) (qs : List Term) (i : ℕ) (t : Term) → i < length qs
 entry-at n [] i t below e h = absurd (omega arith)
 entry-at n (x ∷ qs) zero t below e h = (ap (λ (y : Term). length y.exps) e ∙ h.0, (λ z. h.1 (sym (ap (λ (y : Term). y.coef) e) ∙ z)))
 entry-at n (x ∷ qs) (suc i) t below e h = entry-at n qs i t (omega arith) e h.3
+
+-- the item at a place, whatever stands for a missing one
+pub own-item : (xs : List Term) (i : ℕ) (d : Term) → i < length xs → get_or xs i d ≡ get_or xs i (get_or xs i d)
+own-item [] i d below = absurd (omega (arith, below))
+own-item (x ∷ xs) zero d below = refl
+own-item (x ∷ xs) (suc i) d below = own-item xs i d (omega (arith, below))

@@ -1,5 +1,5 @@
 -- Polynomials in a store.
-use Rattle.std.specs.Prelude.{◌≡◌, ℕ, IsTrue, Result, Ok, Err}
+use Rattle.std.specs.Prelude.{◌≡◌, ℕ, suc, IsTrue, Option, Some, None, Result, Ok, Err}
 use Rattle.poly_model.specs.Polynomial.{Polynomial}
 use Rattle.poly_model.specs.Standard.{polynomial_of, is_standard}
 use Rattle.term_store.specs.States.{State, IsLive, list_at}
@@ -40,3 +40,8 @@ Answers s t (Ok r) (Ok p) = Gives s t r p
 Answers s t (Ok r) (Err met) = ⊥
 Answers s t (Err limit) (Ok p) = ⊥
 Answers s t (Err limit) (Err met) = (limit ≡ met) × Keeps s t
+
+-- A class as a number: 0 where there is none, else one more than the place of the variable.
+abbrev pub class_number : Option ℕ → ℕ
+class_number None = 0
+class_number (Some i) = suc i

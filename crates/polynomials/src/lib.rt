@@ -1,12 +1,22 @@
-// Arithmetic of polynomials in a store, within limits.
+//! Exact arithmetic of polynomials in a store, within limits.
 #![tactic(auto)]
 
+mod change;
+mod contents;
+mod copies;
 mod degrees;
 mod exponents;
+mod parts;
 mod poly;
 mod product;
+mod reads;
 mod rows;
+mod sums;
 
-pub use degrees::mul;
-pub use exponents::exponents_sum;
+pub use contents::prim;
+pub use copies::{copy_in, copy_out};
+pub use degrees::{degrees_fit, mul};
+pub use parts::{coefficient, copy, initial, shift, tail};
 pub use poly::Poly;
+pub use reads::{class, degree, same};
+pub use sums::{add, sub};

@@ -7,7 +7,7 @@ use Rattle.poly_model.proofs.Within.{within-of, bounded_sum-standard}
 use Rattle.polynomials.specs.Held.{Outcome, polynomial_at}
 use Rattle.polynomials.proofs.Steps as steps
 use Rattle.polynomials.proofs.Outcomes as outcomes
-use Rattle.polynomials.proofs.product.add.Goals as goal
+use Rattle.polynomials.proofs.sums.add.Goals as goal
 
 le_of : (a b : ℕ) → nat_le a b ≡ true → a ≤ b
 le_of a b e = grind (arith, nat_tests)

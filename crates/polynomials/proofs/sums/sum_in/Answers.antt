@@ -6,7 +6,7 @@ use Rattle.term_store.specs.States.{list_at}
 use Rattle.term_store.proofs.Making as making
 use Rattle.polynomials.proofs.Steps as steps
 use Rattle.polynomials.proofs.Outcomes as outcomes
-use Rattle.polynomials.proofs.product.sum_in.Goals as goal
+use Rattle.polynomials.proofs.sums.sum_in.Goals as goal
 
 pub len-requires : goal.len-requires
 len-requires g c = making.makes-live _ _ _ c.in-Some.ensures.made

@@ -3,7 +3,7 @@ use Rattle.poly_model.specs.Standard.{are_low}
 use Rattle.poly_model.proofs.Within.{within-of}
 use Rattle.polynomials.specs.Held.{polynomial_at}
 use Rattle.polynomials.proofs.Raising as raising
-use Rattle.polynomials.proofs.degrees.mul.Goals as goal
+use Rattle.polynomials.proofs.degrees.degrees_fit.Goals as goal
 
 pub exponents_sum-requires-clause-a : goal.exponents_sum-requires-clause-a
 exponents_sum-requires-clause-a g c =
