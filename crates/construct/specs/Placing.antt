@@ -8,6 +8,8 @@ use Rattle.gcl_reader.specs.Grammar.{◌>>=◌}
 use Rattle.gcl_reader.specs.declared.refusal.Kind.{Kind}
 use Rattle.gcl_reader.specs.declared.refusal.Kind.TheVariants as kind
 use Rattle.gcl_reader.specs.declared.refusal.Refusal.{Refusal}
+use Rattle.gcl_reader.specs.Span.{refusal}
+use Rattle.gcl_names.specs.Program.{span_of_act}
 use Rattle.gcl_names.specs.declared.program.Act.{Act}
 use Rattle.circle_cut.specs.Places.{rounded}
 use Rattle.construct.specs.Constructed.{Constructed, nothing, with_point, with_line, with_circle, counted}
@@ -15,17 +17,13 @@ use Rattle.construct.specs.Made.{made_by}
 use Rattle.construct.specs.declared.made.Made.{Made}
 use Rattle.construct.specs.declared.made.Made.TheVariants as made
 
--- The refusal of an act, at its word.
-abbrev pub refused_at : Kind → Act → Refusal
-refused_at k a = record { line = a.line; kind = k; at = a.at; len = a.len }
-
 -- Neither coordinate passes the greatest.
 abbrev pub is_near : Spot → Bool
 is_near s = nat_le (unsigned_abs s.x) MOST_TICKS && nat_le (unsigned_abs s.y) MOST_TICKS
 
 -- One more point, which must be near.
 unfoldable pub put_spot : Act → Spot → Constructed → Result Constructed Refusal
-put_spot a s f = if is_near s then Ok (with_point s f) else Err (refused_at kind.OutOfRange a)
+put_spot a s f = if is_near s then Ok (with_point s f) else Err (refusal kind.OutOfRange (span_of_act a))
 
 -- One more point, which must be near, and is semi-free.
 unfoldable pub put_semi_free : Act → Spot → Constructed → Result Constructed Refusal
@@ -47,7 +45,7 @@ put a (made.Circle k) f = Ok (with_circle k f)
 -- What is constructed after an act whose deed makes this.
 unfoldable pub put_made : Act → Result Made Kind → Constructed → Result Constructed Refusal
 put_made a (Ok m) f = put a m f
-put_made a (Err k) f = Err (refused_at k a)
+put_made a (Err k) f = Err (refusal k (span_of_act a))
 
 -- What is constructed after an act.
 abbrev pub after_act : Act → Constructed → Result Constructed Refusal

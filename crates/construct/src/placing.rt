@@ -6,7 +6,7 @@ ghost use Rattle.fixed_point.specs.declared.limits.TheConstants.{MOST_TICKS};
 ghost use Rattle.circle_cut.specs.Places.{rounded};
 ghost use Rattle.circle_cut.specs.Sizes.{IsExact};
 ghost use Rattle.construct.specs.Made.{Uses, IsFit};
-ghost use Rattle.construct.specs.Placing.{refused_at, put_spot, put_semi_free, put_two, put, put_made, after_act, spots_of};
+ghost use Rattle.construct.specs.Placing.{put_spot, put_semi_free, put_two, put, put_made, after_act, spots_of};
 ghost use Rattle.construct.specs.Spots.{positions_of};
 
 use crate::construction::Construction;
@@ -16,20 +16,8 @@ use circle_cut::{Exact, coordinates};
 use edge_num::Whole;
 use fixed_point::{MOST_TICKS, Spot};
 use gcl_names::{Act, Program};
-use gcl_reader::{GclFault, Kind, Refusal};
+use gcl_reader::{GclFault, Kind};
 use std::alloc::Global;
-
-// The refusal of an act, at its word.
-fn refused_at(kind: Kind, act: &Act) -> Refusal
-    ensures { result ≡ refused_at kind act.now }
-{
-    Refusal {
-        line: act.line,
-        kind,
-        at: act.at,
-        len: act.len,
-    }
-}
 
 fn is_near(n: Whole) -> bool
     ensures { result ≡ nat_le (unsigned_abs n) MOST_TICKS }
@@ -54,7 +42,7 @@ fn put_spot(act: &Act, x: Whole, y: Whole, f: &mut Construction) -> Result<(), G
     ensures { Gives (λ _. f.new) result (put_spot act.now (record { x = x; y = y }) f.old) }
 {
     if !is_near(x) || !is_near(y) {
-        return Err(GclFault::Refused(refused_at(Kind::OutOfRange, act)));
+        return Err(GclFault::Refused(act.span().refusal(Kind::OutOfRange)));
     }
     f.add_point(spot_of(x, y))?;
     Ok(())
@@ -66,7 +54,7 @@ fn put_semi_free(act: &Act, x: Whole, y: Whole, f: &mut Construction) -> Result<
     ensures { Gives (λ _. f.new) result (put_semi_free act.now (record { x = x; y = y }) f.old) }
 {
     if !is_near(x) || !is_near(y) {
-        return Err(GclFault::Refused(refused_at(Kind::OutOfRange, act)));
+        return Err(GclFault::Refused(act.span().refusal(Kind::OutOfRange)));
     }
     f.add_semi_free(spot_of(x, y))?;
     Ok(())
@@ -126,7 +114,7 @@ fn place_act(act: &Act, f: &mut Construction) -> Result<(), GclFault>
 {
     match made_by(&act.deed, f) {
         Ok(made) => put(act, made, f),
-        Err(kind) => Err(GclFault::Refused(refused_at(kind, act))),
+        Err(kind) => Err(GclFault::Refused(act.span().refusal(kind))),
     }
 }
 
