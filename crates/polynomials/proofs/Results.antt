@@ -1,7 +1,7 @@
 -- What calls of arithmetic give, where further lists are made and given up.
 use Rattle.std.proofs.Common.{◌≡◌, ℕ, ◌+◌, ◌≤◌, length, refl, sym, ◌∙◌, ap, subst, arith, IsTrue}
 use Rattle.std.specs.Prelude.{Result, Ok, Err}
-use Rattle.std.specs.FinMap.{remove}
+use Rattle.std.specs.FinMap.{insert, remove}
 use Rattle.poly_model.specs.Polynomial.{Polynomial}
 use Rattle.poly_model.specs.Standard.{polynomial_of, is_standard}
 use Rattle.poly_model.specs.declared.limits.Limit.{Limit}
@@ -11,6 +11,7 @@ use Rattle.term_store.specs.Changes.{Makes, Keeps, given_up}
 use Rattle.term_store.proofs.Making as making
 use Rattle.polynomials.specs.declared.poly.Poly.{Poly}
 use Rattle.polynomials.specs.Held.{IsPoly, Gives, Answers, slot_of, polynomial_at}
+use Rattle.polynomials.proofs.Steps.{polynomial-length}
 use Rattle.polynomials.proofs.Outcomes.{few}
 
 -- The list at a slot was given up.
@@ -78,3 +79,36 @@ answers-some s t r (Err l) o = absurd o
 pub answers-limited : (s t : State) (l : Limit) (whole : Result Polynomial Limit) → Answers s t (Err l) whole → (whole ≡ Err l) × Keeps s t
 answers-limited s t l (Ok p) o = absurd o
 answers-limited s t l (Err m) o = (ap Err (sym o.0), o.1)
+
+-- an older polynomial is given up beside a new one
+pub gives-instead : (s t v : State) (older r : Poly) (p : Polynomial) → Gives s t r p → IsPoly s older → Freed t v (slot_of older) → Gives (given_up s (slot_of older)) v r p
+gives-instead s t v older r p g h f =
+    let instead = making.makes-given_up s t v (slot_of r) (slot_of older) g.makes h.live f.lists f.spare in
+    record { makes = instead.0; value = ap polynomial_of instead.1 ∙ g.value; standard = g.standard }
+
+-- the new one is given up again
+pub keeps-made : (s t v : State) (k : ℕ) → Makes s t k → Freed t v k → Keeps s v
+keeps-made s t v k m f = making.makes-freed s t v k m f.lists f.spare
+
+-- the terms of a new polynomial
+pub gives-length : (s t : State) (r : Poly) (p : Polynomial) → Gives s t r p → length (list_at t.lists (slot_of r)) ≡ length p
+gives-length s t r p g = sym (polynomial-length (list_at t.lists (slot_of r))) ∙ ap length g.value
+
+-- a polynomial that was made is replaced by another
+pub gives-again : (s t v : State) (older r : Poly) (p q : Polynomial) → Gives s t older p → Gives (given_up t (slot_of older)) v r q → Gives s v r q
+gives-again s t v older r p q g h = record { makes = making.makes-instead s t v (slot_of older) (slot_of r) g.makes h.makes; value = h.value; standard = h.standard }
+
+pub keeps-again : (s t u : State) (older : Poly) (p : Polynomial) → Gives s t older p → Keeps (given_up t (slot_of older)) u → Keeps s u
+keeps-again s t u older p g k = making.keeps-instead s t u (slot_of older) g.makes k
+
+-- a call that keeps the store keeps what was made
+pub gives-kept : (s t u : State) (r : Poly) (p : Polynomial) → Gives s t r p → Keeps t u → Gives s u r p
+gives-kept s t u r p g k = record {
+  makes = record {
+    vacant = g.makes.vacant;
+    lists = k.lists ∙ g.makes.lists ∙ ap (λ m. insert s.lists (slot_of r) (list_at m (slot_of r))) (sym k.lists);
+    spare = (λ i. k.spare i + (length (list_at (k.lists i) (slot_of r)) + 1)) ∙ g.makes.spare;
+  };
+  value = ap (λ m. polynomial_of (list_at m (slot_of r))) k.lists ∙ g.value;
+  standard = g.standard;
+}

@@ -41,7 +41,8 @@ pub fn mul<S: TermStore>(s: &mut S, a: Poly, b: Poly) -> Result<Poly, Limit>
     requires a { IsPoly (S.state s.old) a }
     requires b { IsPoly (S.state s.old) b }
     requires room { ARITH_UNITS ≤ (S.state s.old).spare }
-    ensures { Answers (S.state s.old) (S.state s.new) result (bounded_product (polynomial_at (S.state s.old) a) (polynomial_at (S.state s.old) b)) }
+    ensures { Answers (S.state s.old) (S.state s.new) result (bounded_product (polynomial_at
+        (S.state s.old) a) (polynomial_at (S.state s.old) b)) }
 {
     if !degrees_fit(s, a, b) {
         return Err(Limit::Degree);

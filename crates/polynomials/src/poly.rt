@@ -4,7 +4,7 @@ ghost use Rattle.polynomials.specs.Held.{slot_of};
 use term_store::Slot;
 
 /// A polynomial within the limits, by its slot in a store.
-#[derive(Clone, Copy, Debug)]
+#[derive(Clone, Copy, Debug, PartialEq, Eq)]
 pub struct Poly {
     pub(crate) slot: Slot,
 }

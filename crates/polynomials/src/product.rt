@@ -23,13 +23,19 @@ fn add_row<S: TermStore>(s: &mut S, factor: &Term, q: Slot, sum: Slot) -> Result
     requires low { IsTrue (are_low factor.now.exps) }
     requires live_q { IsLive (S.state s.old).lists q.0 }
     requires live_sum { IsLive (S.state s.old).lists sum.0 }
-    requires q_descending { IsDescending MOST_VARIABLES (polynomial_of (list_at (S.state s.old).lists q.0)) }
+    requires q_descending { IsDescending MOST_VARIABLES (polynomial_of (list_at (S.state
+        s.old).lists q.0)) }
     requires q_bounded { IsTrue (are_bounded (polynomial_of (list_at (S.state s.old).lists q.0))) }
     requires q_low { IsTrue (all_low (polynomial_of (list_at (S.state s.old).lists q.0))) }
-    requires sum_descending { IsDescending MOST_VARIABLES (polynomial_of (list_at (S.state s.old).lists sum.0)) }
-    requires sum_bounded { IsTrue (are_bounded (polynomial_of (list_at (S.state s.old).lists sum.0))) }
-    requires room { 2 + length (list_at (S.state s.old).lists q.0) + length (list_at (S.state s.old).lists q.0) + length (list_at (S.state s.old).lists sum.0) ≤ (S.state s.old).spare }
-    ensures { Outcome (given_up (S.state s.old) sum.0) (S.state s.new) result (bounded_row factor.now.exps factor.now.coef (polynomial_of (list_at (S.state s.old).lists q.0)) (polynomial_of (list_at (S.state s.old).lists sum.0))) }
+    requires sum_descending { IsDescending MOST_VARIABLES (polynomial_of (list_at (S.state
+        s.old).lists sum.0)) }
+    requires sum_bounded { IsTrue (are_bounded (polynomial_of (list_at (S.state s.old).lists
+        sum.0))) }
+    requires room { 2 + length (list_at (S.state s.old).lists q.0) + length (list_at (S.state
+        s.old).lists q.0) + length (list_at (S.state s.old).lists sum.0) ≤ (S.state s.old).spare }
+    ensures { Outcome (given_up (S.state s.old) sum.0) (S.state s.new) result (bounded_row
+        factor.now.exps factor.now.coef (polynomial_of (list_at (S.state s.old).lists q.0))
+        (polynomial_of (list_at (S.state s.old).lists sum.0))) }
 {
     let Some(row) = multiple(s, factor, q) else {
         s.free(sum);
@@ -46,8 +52,10 @@ pub fn mul_rows<S: TermStore>(s: &mut S, a: Poly, b: Poly) -> Result<Poly, Limit
     requires a { IsPoly (S.state s.old) a }
     requires b { IsPoly (S.state s.old) b }
     requires room { ARITH_UNITS ≤ (S.state s.old).spare }
-    requires fit { degrees_fit (polynomial_at (S.state s.old) a) (polynomial_at (S.state s.old) b) ≡ true }
-    ensures { Answers (S.state s.old) (S.state s.new) result (bounded_product (polynomial_at (S.state s.old) a) (polynomial_at (S.state s.old) b)) }
+    requires fit { degrees_fit (polynomial_at (S.state s.old) a) (polynomial_at (S.state s.old) b)
+        ≡ true }
+    ensures { Answers (S.state s.old) (S.state s.new) result (bounded_product (polynomial_at
+        (S.state s.old) a) (polynomial_at (S.state s.old) b)) }
 {
     let count = s.len(a.slot);
     let mut sum = s.fresh();

@@ -25,9 +25,13 @@ pub fn multiple<S: TermStore>(s: &mut S, factor: &Term, q: Slot) -> Option<Slot>
     requires lows { IsTrue (all_low (polynomial_of (list_at (S.state s.old).lists q.0))) }
     requires room { length (list_at (S.state s.old).lists q.0) < (S.state s.old).spare }
     ensures made { IfSome result (λ r. Makes (S.state s.old) (S.state s.new) r.0) }
-    ensures value { IfSome result (λ r. polynomial_of (list_at (S.state s.new).lists r.0) ≡ multiple factor.now.exps factor.now.coef (polynomial_of (list_at (S.state s.old).lists q.0))) }
-    ensures bounded { IfSome result (λ r. IsTrue (are_bounded (multiple factor.now.exps factor.now.coef (polynomial_of (list_at (S.state s.old).lists q.0))))) }
-    ensures passes { IfNone result (are_bounded (multiple factor.now.exps factor.now.coef (polynomial_of (list_at (S.state s.old).lists q.0))) ≡ false) }
+    ensures value { IfSome result (λ r. polynomial_of (list_at (S.state s.new).lists r.0)
+        ≡ multiple factor.now.exps factor.now.coef (polynomial_of (list_at (S.state s.old).lists
+        q.0))) }
+    ensures bounded { IfSome result (λ r. IsTrue (are_bounded (multiple factor.now.exps
+        factor.now.coef (polynomial_of (list_at (S.state s.old).lists q.0))))) }
+    ensures passes { IfNone result (are_bounded (multiple factor.now.exps factor.now.coef
+        (polynomial_of (list_at (S.state s.old).lists q.0))) ≡ false) }
     ensures kept { IfNone result (Keeps (S.state s.old) (S.state s.new)) }
 {
     let count = s.len(q);
@@ -58,7 +62,8 @@ fn copy_rest<S: TermStore>(s: &mut S, out: Slot, q: Slot, from: usize)
     requires apart { q.0 ≢ out.0 }
     requires from { from ≤ length (list_at (S.state s.old).lists q.0) }
     requires room { length (list_at (S.state s.old).lists q.0) ≤ (S.state s.old).spare + from }
-    ensures { Extends (S.state s.old) (S.state s.new) out.0 (drop from (list_at (S.state s.old).lists q.0)) }
+    ensures { Extends (S.state s.old) (S.state s.new) out.0 (drop from (list_at (S.state
+        s.old).lists q.0)) }
 {
     let count = s.len(q);
     for i in from..count {
@@ -75,8 +80,11 @@ fn push_sum<S: TermStore>(s: &mut S, out: Slot, x: &Term, y: &Term) -> bool
     requires room { 0 < (S.state s.old).spare }
     requires x { unsigned_abs x.now.coef ≤ MOST_SIZE }
     requires y { unsigned_abs y.now.coef ≤ MOST_SIZE }
-    ensures added { IsTrue result → (unsigned_abs (x.now.coef +ℤ y.now.coef) ≤ MOST_SIZE) × Extends (S.state s.old) (S.state s.new) out.0 (summed x.now y.now) }
-    ensures passes { result ≡ false → (unsigned_abs (x.now.coef +ℤ y.now.coef) ≤ MOST_SIZE → ⊥) × (S.state s.new ≡ S.state s.old) }
+    ensures added { IsTrue result
+        → (unsigned_abs (x.now.coef +ℤ y.now.coef) ≤ MOST_SIZE)
+        × Extends (S.state s.old) (S.state s.new) out.0 (summed x.now y.now) }
+    ensures passes { result ≡ false → (unsigned_abs (x.now.coef +ℤ y.now.coef) ≤ MOST_SIZE
+        → ⊥) × (S.state s.new ≡ S.state s.old) }
 {
     let Some(coef) = add_in(x.coef, y.coef) else {
         return false;
@@ -91,15 +99,22 @@ fn push_sum<S: TermStore>(s: &mut S, out: Slot, x: &Term, y: &Term) -> bool
 pub fn merge<S: TermStore>(s: &mut S, a: Slot, b: Slot) -> Option<Slot>
     requires live_a { IsLive (S.state s.old).lists a.0 }
     requires live_b { IsLive (S.state s.old).lists b.0 }
-    requires descending_a { IsDescending MOST_VARIABLES (polynomial_of (list_at (S.state s.old).lists a.0)) }
-    requires descending_b { IsDescending MOST_VARIABLES (polynomial_of (list_at (S.state s.old).lists b.0)) }
+    requires descending_a { IsDescending MOST_VARIABLES (polynomial_of (list_at (S.state
+        s.old).lists a.0)) }
+    requires descending_b { IsDescending MOST_VARIABLES (polynomial_of (list_at (S.state
+        s.old).lists b.0)) }
     requires bounded_a { IsTrue (are_bounded (polynomial_of (list_at (S.state s.old).lists a.0))) }
     requires bounded_b { IsTrue (are_bounded (polynomial_of (list_at (S.state s.old).lists b.0))) }
-    requires room { length (list_at (S.state s.old).lists a.0) + length (list_at (S.state s.old).lists b.0) < (S.state s.old).spare }
+    requires room { length (list_at (S.state s.old).lists a.0) + length (list_at (S.state
+        s.old).lists b.0) < (S.state s.old).spare }
     ensures made { IfSome result (λ r. Makes (S.state s.old) (S.state s.new) r.0) }
-    ensures value { IfSome result (λ r. polynomial_of (list_at (S.state s.new).lists r.0) ≡ poly_sum (polynomial_of (list_at (S.state s.old).lists a.0)) (polynomial_of (list_at (S.state s.old).lists b.0))) }
-    ensures bounded { IfSome result (λ r. IsTrue (are_bounded (poly_sum (polynomial_of (list_at (S.state s.old).lists a.0)) (polynomial_of (list_at (S.state s.old).lists b.0))))) }
-    ensures passes { IfNone result (are_bounded (poly_sum (polynomial_of (list_at (S.state s.old).lists a.0)) (polynomial_of (list_at (S.state s.old).lists b.0))) ≡ false) }
+    ensures value { IfSome result (λ r. polynomial_of (list_at (S.state s.new).lists r.0)
+        ≡ poly_sum (polynomial_of (list_at (S.state s.old).lists a.0)) (polynomial_of (list_at
+        (S.state s.old).lists b.0))) }
+    ensures bounded { IfSome result (λ r. IsTrue (are_bounded (poly_sum (polynomial_of (list_at
+        (S.state s.old).lists a.0)) (polynomial_of (list_at (S.state s.old).lists b.0))))) }
+    ensures passes { IfNone result (are_bounded (poly_sum (polynomial_of (list_at (S.state
+        s.old).lists a.0)) (polynomial_of (list_at (S.state s.old).lists b.0))) ≡ false) }
     ensures kept { IfNone result (Keeps (S.state s.old) (S.state s.new)) }
 {
     let (end_a, end_b) = (s.len(a), s.len(b));

@@ -19,12 +19,16 @@ use term_store::{Slot, TermStore};
 pub fn sum_in<S: TermStore>(s: &mut S, a: Slot, b: Slot) -> Result<Slot, Limit>
     requires live_a { IsLive (S.state s.old).lists a.0 }
     requires live_b { IsLive (S.state s.old).lists b.0 }
-    requires descending_a { IsDescending MOST_VARIABLES (polynomial_of (list_at (S.state s.old).lists a.0)) }
-    requires descending_b { IsDescending MOST_VARIABLES (polynomial_of (list_at (S.state s.old).lists b.0)) }
+    requires descending_a { IsDescending MOST_VARIABLES (polynomial_of (list_at (S.state
+        s.old).lists a.0)) }
+    requires descending_b { IsDescending MOST_VARIABLES (polynomial_of (list_at (S.state
+        s.old).lists b.0)) }
     requires bounded_a { IsTrue (are_bounded (polynomial_of (list_at (S.state s.old).lists a.0))) }
     requires bounded_b { IsTrue (are_bounded (polynomial_of (list_at (S.state s.old).lists b.0))) }
-    requires room { length (list_at (S.state s.old).lists a.0) + length (list_at (S.state s.old).lists b.0) < (S.state s.old).spare }
-    ensures { Outcome (S.state s.old) (S.state s.new) result (bounded_sum (polynomial_of (list_at (S.state s.old).lists a.0)) (polynomial_of (list_at (S.state s.old).lists b.0))) }
+    requires room { length (list_at (S.state s.old).lists a.0) + length (list_at (S.state
+        s.old).lists b.0) < (S.state s.old).spare }
+    ensures { Outcome (S.state s.old) (S.state s.new) result (bounded_sum (polynomial_of (list_at
+        (S.state s.old).lists a.0)) (polynomial_of (list_at (S.state s.old).lists b.0))) }
 {
     let Some(sum) = merge(s, a, b) else {
         return Err(Limit::Bound);

@@ -1,1 +1,3 @@
 pub mod Reducing
+pub mod Paying
+pub mod Descending

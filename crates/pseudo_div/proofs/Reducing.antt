@@ -1,8 +1,9 @@
 -- The parts of an elementary reduction.
-use Rattle.std.proofs.Common.{◌≡◌, ℕ, ◌+◌, ◌-◌, ◌≤◌, suc, refl, [], sym, ◌∙◌, ap, subst, arith, true, false, ◌&&◌, IsTrue}
+use Rattle.std.proofs.Common.{◌≡◌, ℕ, ◌+◌, ◌-◌, ◌<◌, ◌≤◌, suc, refl, [], sym, ◌∙◌, ap, subst, arith, true, false, ◌&&◌, IsTrue}
 use Rattle.std.specs.Prelude.{ℤ, Result, Ok, Err, nat_le}
 use Rattle.std.specs.Cmp.Derive.{both_true}
 use Rattle.std.proofs.lemmas.Bool.{leb-true, le-leb}
+use Rattle.std.proofs.lemmas.Bool.Decides.{nat_tests}
 use Rattle.poly_model.specs.Polynomial.{Polynomial}
 use Rattle.poly_model.specs.Standard.{is_standard}
 use Rattle.poly_model.specs.Reduction.{class_of, main_place, main_degree, degree_at, coefficient_at, shifted, reaches, factor_of, parts_of}
@@ -78,3 +79,20 @@ reduces-live s t j (Ok r) (Ok p) o live = making.makes-other-live s t (slot_of r
 reduces-live s t j (Ok r) (Err l) o live = absurd o
 reduces-live s t j (Err x) (Ok p) o live = absurd o
 reduces-live s t j (Err x) (Err l) o live = subst (λ n. IsLive n j) (sym o.1.lists) live
+
+pub reduces-some : (s t : State) (r : ℤ × Poly) (whole : Result (ℤ × Polynomial) Limit) → Reduces s t (Ok r) whole → (p : ℤ × Polynomial) × (whole ≡ Ok p) × (r.0 ≡ p.0) × Gives s t r.1 p.1
+reduces-some s t r (Ok p) o = (p, refl, o.0, o.1)
+reduces-some s t r (Err l) o = absurd o
+
+-- ---- degrees tell what is reached
+reach : (g f : Polynomial) (var : ℕ) → class_of f ≡ suc var → reaches g f ≡ nat_le (degree_at var f) (degree_at var g)
+reach g f var e = let place = place-is f var e in λ i. nat_le (degree_at (place i) f) (degree_at (place i) g)
+
+pub reaches-of : (g f : Polynomial) (var : ℕ) → class_of f ≡ suc var → degree_at var f ≤ degree_at var g → reaches g f ≡ true
+reaches-of g f var e le = reach g f var e ∙ le-leb (degree_at var f) (degree_at var g) le
+
+pub reaches-not : (g f : Polynomial) (var : ℕ) → class_of f ≡ suc var → degree_at var g < degree_at var f → reaches g f ≡ false
+reaches-not g f var e lt = reach g f var e ∙ past (degree_at var f) (degree_at var g) lt
+  where
+    past : (a b : ℕ) → b < a → nat_le a b ≡ false
+    past a b n = grind (arith, nat_tests)
