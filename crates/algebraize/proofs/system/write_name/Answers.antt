@@ -1,7 +1,7 @@
 use Rattle.std.proofs.Common.{decimal, refl, ◌∙◌, ap}
 use Rattle.desk_io.proofs.Writing.{first_failed, last_writes}
 use Rattle.poly_text.specs.Text.{number}
-use Rattle.algebraize.proofs.Lines as lines
+use Rattle.algebraize.proofs.Texts as lines
 use Rattle.algebraize.proofs.system.write_name.Goals as goal
 
 pub returns-in_err-push-clause-bytes : goal.returns-in_err-push-clause-bytes
