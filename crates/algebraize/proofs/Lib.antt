@@ -10,3 +10,4 @@ pub mod Texts
 pub mod Proves
 pub mod Over
 pub mod Effects
+pub mod OtherWords

@@ -9,6 +9,7 @@ pub mod Layout
 pub mod Equations
 pub mod Problem
 pub mod System
+pub mod Laws
 -- how the code holds them
 pub mod Small
 pub mod Terms

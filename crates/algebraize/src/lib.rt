@@ -14,7 +14,9 @@ mod system;
 mod terms;
 mod vectors;
 
-pub use laws::equations_mean_their_figure;
+pub use laws::{
+    constructions_in_other_words, equations_mean_their_figure, statements_in_other_words,
+};
 pub use problem::{Problem, problems, system_of};
 pub use ratio::{MILLIONTHS, MOST_MILLIONTHS};
 pub use system::write_system;
