@@ -167,3 +167,17 @@ fn so_many_variables_are_taken_and_no_more(rt: HostRuntime) {
         assert!(rt; refusal == wanted, "{refusal:?} for {wanted:?}");
     }
 }
+
+#[test]
+fn problems_are_compared(rt: HostRuntime) {
+    let alloc = rt.alloc();
+    let text =
+        b"point A 1 1\npoint B 2 1\nprove { identical A B }\nprove { identical A B }\nprove { identical B A }\nprove { midpoint A B B }\nmidpoint M A B\nprove { identical A B }";
+    let program = program_of(&rt, alloc, text);
+    let problems = problems(alloc, &program).expect(&rt, "the problems are formed");
+    assert!(rt; problems.len() == 5);
+    assert!(rt; problems[0].equals(&problems[1]));
+    assert!(rt; problems[0].equals(&problems[2]));
+    assert!(rt; problems[0].equals(&problems[3]));
+    assert!(rt; !problems[0].equals(&problems[4]));
+}
