@@ -1,5 +1,5 @@
 -- Lists of terms change as the definitions say.
-use Rattle.std.proofs.Common.{◌≡◌, ◌≢◌, ℕ, ◌+◌, ◌<◌, ◌≤◌, zero, suc, List, [], ◌∷◌, ◌++◌, length, get_or, set, refl, sym, ◌∙◌, ap, arith, IsTrue, nat_le, nat_lt, Bool, true, false, ◌&&◌}
+use Rattle.std.proofs.Common.{◌≡◌, ◌≢◌, ℕ, ◌+◌, ◌<◌, ◌≤◌, zero, suc, List, [], ◌∷◌, ◌++◌, length, get_or, set, refl, sym, ◌∙◌, ap, arith, IsTrue, nat_le, nat_lt, Bool, true, false, ◌&&◌, Result, Ok, Err, IfOk}
 use Rattle.std.specs.Prelude.{ℤ, pos, negsuc, ◌+ℤ◌, ◌*ℤ◌, unsigned_abs}
 use Rattle.std.specs.List.{insert, remove}
 use Rattle.std.specs.Ordering.{is_lt, is_eq}
@@ -245,3 +245,8 @@ pub above-length : (es : List ℕ) (ts : List Term) (i : ℕ) → AreAbove es ts
 above-length es ts zero above = omega arith
 above-length es [] (suc i) above = absurd above
 above-length es (t ∷ ts) (suc i) above = omega (arith, above-length es ts i above.1)
+
+-- what holds of a result holds of what follows
+pub if_ok : {T E : Type 0} {P Q : T → Type 0} (r : Result T E) → ((x : T) → P x → Q x) → IfOk r P → IfOk r Q
+if_ok (Ok x) f p = f x p
+if_ok (Err e) f p = tt

@@ -1,7 +1,13 @@
+pub mod Every
+pub mod Small
+pub mod Changes
+pub mod Multiples
+pub mod Division
+pub mod Related
 pub mod Meaning
 pub mod Places
-pub mod Changes
-pub mod Small
-pub mod Forming
+pub mod Texts
 pub mod Proves
-pub mod Lines
+pub mod Over
+pub mod Effects
+pub mod OtherWords

@@ -1,11 +1,11 @@
 -- The coordinates of a layout are zero or one of its variables.
 use Rattle.std.proofs.Common.{rules, ◌≤◌, ◌==◌, ℕ, List, [], ◌∷◌, ◌++◌, length, arith, true, false, if◌then◌else◌, length-append}
 use Rattle.gcl_names.specs.declared.program.Act.{Act}
-use Rattle.gcl_names.specs.declared.program.Deed.{Deed}
-use Rattle.gcl_names.specs.declared.program.Deed.TheVariants as deed
 use Rattle.algebraize.specs.declared.layout.Coordinate.{Coordinate}
 use Rattle.algebraize.specs.declared.layout.Coordinate.TheVariants as coordinate
-use Rattle.algebraize.specs.Layout.{IsBelow, AreBelow, IsOwn, Layout, layout_of, layout_from, laid, free_point, made_point, empty, with_u, with_place, next}
+use Rattle.algebraize.specs.declared.new_points.NewPoints.{NewPoints}
+use Rattle.algebraize.specs.declared.new_points.NewPoints.TheVariants as new
+use Rattle.algebraize.specs.Layout.{IsBelow, AreBelow, IsOwn, Layout, layout_of, layout_from, new_points, with_points, free_point, semi_free_point, dependent_point, empty, with_u, with_place, next}
 
 IsBelow-more : (m n : ℕ) (c : Coordinate) → m ≤ n → IsBelow m c → IsBelow n c
 IsBelow-more m n coordinate.Zero le b = tt
@@ -23,8 +23,11 @@ AreBelow-append n (c ∷ cs) ds a b = (a.0, a.1, AreBelow-append n cs ds a.2 b)
 more : (m n : ℕ) (cs : List (Coordinate × Coordinate)) (x y : Coordinate) → AreBelow m cs → m ≤ n → IsBelow n x → IsBelow n y → AreBelow n (cs ++ (x, y) ∷ [])
 more m n cs x y own le a b = AreBelow-append n cs ((x, y) ∷ []) (AreBelow-more m n cs le own) (a, b, tt)
 
-IsOwn-made : (l : Layout) → IsOwn l → IsOwn (made_point l)
-IsOwn-made l own = more (length l.variables) _ l.places _ _ own (simp length-append (omega arith)) (simp length-append (omega arith)) (simp length-append (omega arith))
+IsOwn-dependent : (l : Layout) → IsOwn l → IsOwn (dependent_point l)
+IsOwn-dependent l own = more (length l.variables) _ l.places _ _ own (simp length-append (omega arith)) (simp length-append (omega arith)) (simp length-append (omega arith))
+
+IsOwn-semi_free : (l : Layout) → IsOwn l → IsOwn (semi_free_point l)
+IsOwn-semi_free l own = more (length l.variables) _ l.places _ _ own (simp length-append (omega arith)) (simp length-append (omega arith)) (simp length-append (omega arith))
 
 IsOwn-free : (l : Layout) → IsOwn l → IsOwn (free_point l)
 IsOwn-free l own =
@@ -37,15 +40,17 @@ IsOwn-free l own =
       ]
     ]
 
-IsOwn-laid : (l : Layout) (d : Deed) → IsOwn l → IsOwn (laid l d)
-IsOwn-laid l (deed.Point p x y) own = IsOwn-free l own
-IsOwn-laid l (deed.Midpoint m a b) own = IsOwn-made l own
-IsOwn-laid l d own = search (rules, own)
+IsOwn-with : (n : NewPoints) (l : Layout) → IsOwn l → IsOwn (with_points n l)
+IsOwn-with new.NoPoint l own = own
+IsOwn-with new.Free l own = IsOwn-free l own
+IsOwn-with new.SemiFree l own = IsOwn-semi_free l own
+IsOwn-with new.Dependent l own = IsOwn-dependent l own
+IsOwn-with new.TwoDependent l own = IsOwn-dependent (dependent_point l) (IsOwn-dependent l own)
 
 pub IsOwn-layout : (l : Layout) (acts : List Act) → IsOwn l → IsOwn (layout_from l acts)
 unfolding layout_from
 IsOwn-layout l [] own = own
-IsOwn-layout l (a ∷ acts) own = IsOwn-layout (laid l a.deed) acts (IsOwn-laid l a.deed own)
+IsOwn-layout l (a ∷ acts) own = IsOwn-layout (with_points (new_points a.deed) l) acts (IsOwn-with (new_points a.deed) l own)
 
 -- The coordinates of a program's points are zero or variables of the layout.
 pub coordinates_own : (acts : List Act) → IsOwn (layout_of acts)

@@ -1,6 +1,8 @@
 -- Layouts, and the prove of a number.
 use Rattle.std.proofs.Common.{append_assoc, append-nil, rules, ◌≡◌, ◌≤◌, ◌<◌, ◌+◌, ◌-◌, ◌==◌, ℕ, zero, suc, List, [], ◌∷◌, ◌++◌, length, get_or, drop, refl, sym, ◌∙◌, ap, subst, arith, Result, Ok, Err, IfOk, Bool, true, false, ◌&&◌, if◌then◌else◌, nat_le, nat_eq, length-append, add-one}
 use Rattle.std.proofs.lemmas.Bool.Decides.{nat_tests}
+use Rattle.std.specs.Cmp.{first_so, second_so}
+use Rattle.std.specs.Cmp.Derive.{both_true}
 use Rattle.poly_model.specs.Names.{count_from, are_variables, numbers_of, is_parameter, is_dependent}
 use Rattle.poly_model.specs.declared.vars.VarName.{VarName}
 use Rattle.poly_model.specs.declared.vars.VarName.TheVariants.{U, X}
@@ -19,8 +21,11 @@ use Rattle.gcl_names.specs.declared.program.Deed.{Deed}
 use Rattle.gcl_names.specs.declared.program.Deed.TheVariants as deed
 use Rattle.gcl_names.specs.Sound.{Counts, after, after_all, nothing}
 use Rattle.algebraize.specs.declared.layout.Coordinate.TheVariants as coordinate
-use Rattle.algebraize.specs.Layout.{Layout, layout_of, layout_from, laid, free_point, made_point, empty, with_u, with_x, with_place, next}
-use Rattle.algebraize.specs.Problem.{Equations, equations_of, is_prove, acts_before, all_read, stated, laid_out, refused, problem_at, problem_of_deed, problem_between, Mean, MeanDeed, MeanBetween, problem_of, problems_from, proves_in}
+use Rattle.algebraize.specs.declared.new_points.NewPoints.{NewPoints}
+use Rattle.algebraize.specs.declared.new_points.NewPoints.TheVariants as new
+use Rattle.algebraize.specs.Layout.{Layout, layout_of, layout_from, new_points, with_points, free_point, semi_free_point, dependent_point, empty, with_u, with_x, with_place, next}
+use Rattle.algebraize.specs.Equations.{Equations, equations_of, Mean}
+use Rattle.algebraize.specs.Problem.{is_prove, acts_before, laid_out, too_many_variables, problem_at, problem_of_deed, problem_between, MeanDeed, MeanBetween, problem_of, problems_from, proves_in}
 
 -- Layouts grow.
 grows-free : (l : Layout) → length l.variables ≤ length (free_point l).variables
@@ -34,15 +39,20 @@ grows-free l =
       ]
     ]
 
-grows-laid : (l : Layout) (d : Deed) → length l.variables ≤ length (laid l d).variables
-grows-laid l (deed.Point p x y) = grows-free l
-grows-laid l (deed.Midpoint m a b) = simp length-append (omega arith)
-grows-laid l d = grind arith
+grows-dependent : (l : Layout) → length l.variables ≤ length (dependent_point l).variables
+grows-dependent l = simp length-append (omega arith)
+
+grows-with : (n : NewPoints) (l : Layout) → length l.variables ≤ length (with_points n l).variables
+grows-with new.NoPoint l = omega arith
+grows-with new.Free l = grows-free l
+grows-with new.SemiFree l = simp length-append (omega arith)
+grows-with new.Dependent l = grows-dependent l
+grows-with new.TwoDependent l = omega (arith, grows-dependent l, grows-dependent (dependent_point l))
 
 pub grows : (l : Layout) (acts : List Act) → length l.variables ≤ length (layout_from l acts).variables
 unfolding layout_from
 grows l [] = omega arith
-grows l (a ∷ acts) = omega (arith, grows-laid l a.deed, grows (laid l a.deed) acts)
+grows l (a ∷ acts) = omega (arith, grows-with (new_points a.deed) l, grows (with_points (new_points a.deed) l) acts)
 
 above_test : (a b m : ℕ) → a ≤ b → nat_le a m ≡ false → nat_le b m ≡ false
 above_test a b m le e = grind (arith, nat_tests)
@@ -52,18 +62,18 @@ below_test a m e = grind (arith, nat_tests)
 
 -- where one act wants too many variables, all acts do
 pub too_many : (before rest tail : List Act) (prove a : Act) (l : Layout) → layout_from l rest ≡ layout_of before → rest ≡ a ∷ tail
-    → nat_le (length (laid l a.deed).variables) MOST_VARIABLES ≡ false → laid_out before prove ≡ Err (refused kind.TooManyVars prove)
+    → nat_le (length (with_points (new_points a.deed) l).variables) MOST_VARIABLES ≡ false → laid_out before prove ≡ Err (too_many_variables prove)
 unfolding layout_from
 too_many before rest tail prove a l same is over =
-    let e : layout_from (laid l a.deed) tail ≡ layout_of before = ap (layout_from l) (sym is) ∙ same in
-    let above = subst (λ (k : Layout). length (laid l a.deed).variables ≤ length k.variables) e (grows (laid l a.deed) tail) in
-    ap (λ b. if b then Ok (layout_of before) else Err (refused kind.TooManyVars prove)) (above_test _ (length (layout_of before).variables) MOST_VARIABLES above over)
+    let e : layout_from (with_points (new_points a.deed) l) tail ≡ layout_of before = ap (layout_from l) (sym is) ∙ same in
+    let above = subst (λ (k : Layout). length (with_points (new_points a.deed) l).variables ≤ length k.variables) e (grows (with_points (new_points a.deed) l) tail) in
+    ap (λ b. if b then Ok (layout_of before) else Err (too_many_variables prove)) (above_test _ (length (layout_of before).variables) MOST_VARIABLES above over)
 
 -- what a layout that is given is
 pub laid_out-ok : (before : List Act) (prove : Act) (l : Layout) → laid_out before prove ≡ Ok l → (l ≡ layout_of before) × (length (layout_of before).variables ≤ MOST_VARIABLES)
 laid_out-ok before prove l e =
     elim (nat_le (length (layout_of before).variables) MOST_VARIABLES) as (λ b. nat_le (length (layout_of before).variables) MOST_VARIABLES ≡ b
-    → ◌≡◌ {A = Result Layout Refusal} (if b then Ok (layout_of before) else Err (refused kind.TooManyVars prove)) (Ok l)
+    → ◌≡◌ {A = Result Layout Refusal} (if b then Ok (layout_of before) else Err (too_many_variables prove)) (Ok l)
     → (l ≡ layout_of before) × (length (layout_of before).variables ≤ MOST_VARIABLES)) [
       | true ↦ λ t h. (cc, below_test _ _ t)
       | false ↦ λ t h. cc
@@ -106,23 +116,11 @@ x_numbers-u (U m ∷ vs) n = x_numbers-u vs n
 eq_test : (a b : ℕ) → a ≡ b → nat_eq a b ≡ true
 eq_test a b e = grind (arith, nat_tests)
 
-and_true : (a b : Bool) → a ≡ true → b ≡ true → (a && b) ≡ true
-and_true true b p q = q
-and_true false b p q = absurd (let h : false ≡ true = p in cc)
-
-and_first : (a b : Bool) → (a && b) ≡ true → a ≡ true
-and_first true b e = refl
-and_first false b e = cc
-
-and_second : (a b : Bool) → (a && b) ≡ true → b ≡ true
-and_second true b e = e
-and_second false b e = cc
-
 count_from-more : (k : ℕ) (ns : List ℕ) (m : ℕ) → count_from k ns ≡ true → m ≡ k + length ns → count_from k (ns ++ m ∷ []) ≡ true
-count_from-more k [] m c e = and_true (nat_eq m k) true (eq_test m k (omega arith)) refl
+count_from-more k [] m c e = both_true (eq_test m k (omega arith)) refl
 count_from-more k (n ∷ ns) m c e =
-    and_true (nat_eq n k) (count_from (k + 1) (ns ++ m ∷ [])) (and_first _ _ c)
-    (count_from-more (k + 1) ns m (and_second (nat_eq n k) _ c) (omega arith))
+    both_true (first_so (nat_eq n k) (count_from (k + 1) ns) c)
+    (count_from-more (k + 1) ns m (second_so (nat_eq n k) (count_from (k + 1) ns) c) (omega arith))
 
 numbered-u : (l : Layout) → Numbered l → Numbered (with_u l)
 numbered-u l h = record {
@@ -160,15 +158,23 @@ numbered-free l h =
       ]
     ]
 
-numbered-laid : (l : Layout) (d : Deed) → Numbered l → Numbered (laid l d)
-numbered-laid l (deed.Point p x y) h = numbered-free l h
-numbered-laid l (deed.Midpoint m a b) h = numbered-same (with_x (with_x l)) (made_point l) refl refl refl (numbered-x (with_x l) (numbered-x l h))
-numbered-laid l d h = search (rules, h)
+numbered-semi_free : (l : Layout) → Numbered l → Numbered (semi_free_point l)
+numbered-semi_free l h = numbered-same (with_x (with_u l)) (semi_free_point l) refl refl refl (numbered-x (with_u l) (numbered-u l h))
+
+numbered-dependent : (l : Layout) → Numbered l → Numbered (dependent_point l)
+numbered-dependent l h = numbered-same (with_x (with_x l)) (dependent_point l) refl refl refl (numbered-x (with_x l) (numbered-x l h))
+
+numbered-with : (n : NewPoints) (l : Layout) → Numbered l → Numbered (with_points n l)
+numbered-with new.NoPoint l h = h
+numbered-with new.Free l h = numbered-free l h
+numbered-with new.SemiFree l h = numbered-semi_free l h
+numbered-with new.Dependent l h = numbered-dependent l h
+numbered-with new.TwoDependent l h = numbered-dependent (dependent_point l) (numbered-dependent l h)
 
 numbered-from : (l : Layout) (acts : List Act) → Numbered l → Numbered (layout_from l acts)
 unfolding layout_from
 numbered-from l [] h = h
-numbered-from l (a ∷ acts) h = numbered-from (laid l a.deed) acts (numbered-laid l a.deed h)
+numbered-from l (a ∷ acts) h = numbered-from (with_points (new_points a.deed) l) acts (numbered-with (new_points a.deed) l h)
 
 le_test : (a m : ℕ) → a ≤ m → nat_le a m ≡ true
 le_test a m le = grind (arith, nat_tests)
@@ -177,28 +183,18 @@ le_test a m le = grind (arith, nat_tests)
 pub variables_of_layout : (acts : List Act) → length (layout_of acts).variables ≤ MOST_VARIABLES → are_variables (layout_of acts).variables ≡ true
 variables_of_layout acts le =
     let h = numbered-from empty acts (record { u_count = refl; x_count = refl; u_order = refl; x_order = refl }) in
-    and_true _ _ (le_test _ _ le) (and_true _ _ h.u_order h.x_order)
+    both_true (le_test _ _ le) (both_true h.u_order h.x_order)
 
 -- What equations are given.
 pub problem_at-ok : (before : List Act) (prove : Act) (s : Statement) (ps : List ℕ) (e : Equations) → problem_at before prove s ps ≡ Ok e
     → (e ≡ equations_of before s ps) × (length (layout_of before).variables ≤ MOST_VARIABLES)
 unfolding problem_at
-problem_at-ok before prove s ps e h =
-    elim (all_read before) as (λ r. (r >>= λ x. stated prove s >>= λ y. laid_out before prove >>= λ l. Ok (equations_of before s ps)) ≡ Ok e
-    → (e ≡ equations_of before s ps) × (length (layout_of before).variables ≤ MOST_VARIABLES)) [
-      | Ok x ↦ after_stated (stated prove s)
-      | Err x ↦ λ h. cc
-    ] h
+problem_at-ok before prove s ps e h = after_laid (laid_out before prove) refl h
   where
     after_laid : (r : Result Layout Refusal) → laid_out before prove ≡ r → (r >>= λ l. Ok (equations_of before s ps)) ≡ Ok e
         → (e ≡ equations_of before s ps) × (length (layout_of before).variables ≤ MOST_VARIABLES)
     after_laid (Ok l) is h = (cc, (laid_out-ok before prove l is).1)
     after_laid (Err x) is h = cc
-
-    after_stated : (r : Result (Unit {0}) Refusal) → (r >>= λ y. laid_out before prove >>= λ l. Ok (equations_of before s ps)) ≡ Ok e
-        → (e ≡ equations_of before s ps) × (length (layout_of before).variables ≤ MOST_VARIABLES)
-    after_stated (Ok y) h = after_laid (laid_out before prove) refl h
-    after_stated (Err x) h = cc
 
 -- The prove of a number.
 after-prove : (n : Counts) (d : Deed) → (after n d).proves ≡ n.proves + (if is_prove d then 1 else 0)

@@ -1,6 +1,8 @@
 -- Sums, negatives, products and primitive parts of small polynomials are small.
-use Rattle.std.proofs.Common.{◌≡◌, ◌≢◌, ℕ, ◌+◌, ◌*◌, ◌/◌, ◌<◌, ◌≤◌, ◌^◌, zero, suc, List, [], ◌∷◌, ◌++◌, length, get_or, replicate, set, refl, sym, ◌∙◌, ap, subst, arith, IsTrue, ◌&&◌, Bool, true, false, nat_le, nat_lt, nat_eq}
+use Rattle.std.proofs.Common.{◌≡◌, ◌≢◌, ℕ, ◌+◌, ◌*◌, ◌/◌, ◌<◌, ◌≤◌, zero, suc, List, [], ◌∷◌, ◌++◌, length, get_or, replicate, set, refl, sym, ◌∙◌, ap, subst, arith, IsTrue, ◌&&◌, Bool, true, false, nat_le, nat_lt, nat_eq}
 use Rattle.std.specs.Prelude.{ℤ, pos, negsuc, ◌+ℤ◌, ◌*ℤ◌, neg_ℤ, unsigned_abs}
+use Rattle.std.specs.Cmp.{first_so, second_so}
+use Rattle.std.specs.Cmp.Derive.{both_true}
 use Rattle.std.proofs.lemmas.Int.{ints}
 use Rattle.std.proofs.lemmas.Bool.Decides.{nat_tests}
 use mir.Syntax.{w128}
@@ -8,27 +10,15 @@ use mir.Val.{SFits}
 use Rattle.std.proofs.Math.ListN.{length-set}
 use Rattle.std.specs.Ordering.{is_gt}
 use Rattle.std.specs.declared.cmp.Ordering.TheVariants.{Less, Equal, Greater}
-use Rattle.poly_model.specs.Polynomial.{Entry, Polynomial, poly_scaled, monomial_cmp, IsAbove, IsDescending, with_entry, add_entry, add_multiple, exponents_sum, poly_sum, poly_negative, poly_difference, poly_product, poly_variable}
+use Rattle.poly_model.specs.Polynomial.{Entry, Polynomial, poly_scaled, monomial_cmp, IsAbove, IsDescending, with_entry, add_entry, add_multiple, exponents_sum, poly_sum, poly_negative, poly_difference, poly_product, poly_constant, poly_variable}
 use Rattle.poly_model.specs.Content.{content, coefficients_gcd, begins_negative, signed_by, quotient_of, entries_divided, primitive_part}
-use Rattle.poly_model.specs.Standard.{polynomial_of, are_low, is_above, are_descending, is_standard}
+use Rattle.poly_model.specs.Standard.{polynomial_of, are_low, is_above, is_within, are_descending, is_standard}
 use Rattle.poly_model.specs.declared.term.Term.{Term}
 use Rattle.poly_model.specs.declared.limits.TheConstants.{MOST_DEGREE, MOST_SIZE, MOST_TERMS, MOST_VARIABLES}
-use Rattle.poly_model.proofs.Ordered.{descending-sum, descending-negative, descending-product, constant_length, one_some}
-use Rattle.poly_model.proofs.Contents.{content-times-primitive_part}
-use Rattle.algebraize.specs.Small.{weight, AreWithin, AllWithin, IsSmall}
-
-pub both_true : (a b : Bool) → a ≡ true → b ≡ true → (a && b) ≡ true
-both_true true b p q = q
-both_true false b p q = absurd (let h : false ≡ true = p in cc)
-
-le_true : (a b : ℕ) → a ≤ b → nat_le a b ≡ true
-le_true a b le = grind (arith, nat_tests)
-
-lt_true : (a b : ℕ) → a < b → nat_lt a b ≡ true
-lt_true a b lt = grind (arith, nat_tests)
-
-pub eq_true : (a b : ℕ) → a ≡ b → nat_eq a b ≡ true
-eq_true a b e = grind (arith, nat_tests)
+use Rattle.poly_model.proofs.Ordered.{descending-sum, descending-negative, descending-product, descending-variable, descending-constant, descending-primitive_part}
+use Rattle.poly_model.proofs.Standing.{standard-descending}
+use Rattle.algebraize.specs.Small.{weight, are_at_most, is_low, IsSmall}
+use Rattle.algebraize.proofs.Every.{every-sum, every-negative, every-divided, is_low-more, is_low-product, are_none, are_one}
 
 div-le : (a m : ℕ) → a / m ≤ a
 div-le a m = omega arith
@@ -82,11 +72,11 @@ part-bound a b w k p q = omega (arith, mul-le-mul a a b w (omega arith) p)
 pub product-bound : (a b c d : ℕ) → a ≤ b → c ≤ d → a * c ≤ b * d
 product-bound a b c d p q = mul-le-mul a b c d p q
 
-fits_product : (a b : ℕ) → a ≤ 2 ^ 20 → b ≤ 2 ^ 20 → a * b ≤ 2 ^ 40
-fits_product a b p q = mul-le-mul a (2 ^ 20) b (2 ^ 20) p q
-
-pub product-fits : (a b : ℤ) → unsigned_abs a ≤ 2 ^ 20 → unsigned_abs b ≤ 2 ^ 20 → SFits w128 (a *ℤ b)
-product-fits a b p q = let low = fits_product (unsigned_abs a) (unsigned_abs b) p q in let e = abs_mul a b in omega (arith, ints, low, e)
+pub product-fits : (a b : ℤ) (k : ℕ) → unsigned_abs b ≤ k → unsigned_abs a * k ≤ MOST_SIZE → SFits w128 (a *ℤ b)
+product-fits a b k le size =
+    let low = part-bound (unsigned_abs a) (unsigned_abs b) k MOST_SIZE le size in
+    let e = abs_mul a b in
+    omega (arith, ints, low, e)
 
 pub distribute : (a b c : ℕ) → a * (b + c) ≡ a * b + a * c
 distribute a b c = omega arith
@@ -115,131 +105,11 @@ weight-at [] i t below is = absurd (omega arith)
 weight-at (x ∷ ts) zero t below is = omega (arith, ap (λ (y : Term). unsigned_abs y.coef) is)
 weight-at (x ∷ ts) (suc i) t below is = omega (arith, weight-at ts i t (omega arith) is)
 
--- Exponents.
-AreWithin-more : (m d n e : ℕ) (es : List ℕ) → m ≤ n → d ≤ e → AreWithin m d es → AreWithin n e es
-AreWithin-more m d n e [] le he a = tt
-AreWithin-more zero d zero e (x ∷ es) le he a = (a.0, AreWithin-more zero d zero e es le he a.1)
-AreWithin-more zero d (suc n) e (x ∷ es) le he a = (omega (arith, a.0), AreWithin-more zero d n e es (omega arith) he a.1)
-AreWithin-more (suc m) d zero e (x ∷ es) le he a = absurd (omega arith)
-AreWithin-more (suc m) d (suc n) e (x ∷ es) le he a = (omega (arith, a.0), AreWithin-more m d n e es (omega arith) he a.1)
-
-AreWithin-sum : (n d e : ℕ) (xs ys : List ℕ) → AreWithin n d xs → AreWithin n e ys → AreWithin n (d + e) (exponents_sum xs ys)
-AreWithin-sum n d e [] ys a b = AreWithin-more n e n (d + e) ys (omega arith) (omega arith) b
-AreWithin-sum n d e (x ∷ xs) [] a b = AreWithin-more n d n (d + e) (x ∷ xs) (omega arith) (omega arith) a
-AreWithin-sum zero d e (x ∷ xs) (y ∷ ys) a b = (omega (arith, a.0, b.0), AreWithin-sum zero d e xs ys a.1 b.1)
-AreWithin-sum (suc n) d e (x ∷ xs) (y ∷ ys) a b = (omega (arith, a.0, b.0), AreWithin-sum n d e xs ys a.1 b.1)
-
-pub AreWithin-low : (n d : ℕ) (es : List ℕ) → d ≤ MOST_DEGREE → AreWithin n d es → IsTrue (are_low es)
-AreWithin-low n d [] le a = refl
-AreWithin-low zero d (e ∷ es) le a = both_true _ _ (le_true e MOST_DEGREE (omega (arith, a.0))) (AreWithin-low zero d es le a.1)
-AreWithin-low (suc n) d (e ∷ es) le a = both_true _ _ (le_true e MOST_DEGREE (omega (arith, a.0))) (AreWithin-low n d es le a.1)
-
-pub AllWithin-last : (n d : ℕ) (p : List Term) (t : Term) → AllWithin n d (polynomial_of (p ++ t ∷ [])) → AllWithin n d (polynomial_of p) × AreWithin n d t.exps
-AllWithin-last n d [] t a = (tt, a.0)
-AllWithin-last n d (x ∷ p) t a = let h = AllWithin-last n d p t a.1 in ((a.0, h.0), h.1)
-
-AllWithin-with_entry : (n d : ℕ) (es : List ℕ) (c : ℤ) (p : Polynomial) → AreWithin n d es → AllWithin n d p → AllWithin n d (with_entry es c p)
-AllWithin-with_entry n d es (pos zero) p a h = h
-AllWithin-with_entry n d es (pos (suc k)) p a h = (a, h)
-AllWithin-with_entry n d es (negsuc k) p a h = (a, h)
-
-AllWithin-add_entry : (n d : ℕ) (es : List ℕ) (c : ℤ) (p : Polynomial) → AreWithin n d es → AllWithin n d p → AllWithin n d (add_entry es c p)
-AllWithin-add_entry n d es c [] a h = AllWithin-with_entry n d es c [] a tt
-AllWithin-add_entry n d es c ((fs, k) ∷ p) a h =
-    elim (monomial_cmp es fs) as (λ r. AllWithin n d (elim r [ Less ↦ (fs, k) ∷ add_entry es c p | Equal ↦ with_entry fs (c +ℤ k) p | Greater ↦ with_entry es c ((fs, k) ∷ p) ])) [
-      | Less ↦ (h.0, AllWithin-add_entry n d es c p a h.1)
-      | Equal ↦ AllWithin-with_entry n d fs (c +ℤ k) p h.0 h.1
-      | Greater ↦ AllWithin-with_entry n d es c ((fs, k) ∷ p) a h
-    ]
-
-AllWithin-sum : (n d : ℕ) (p q : Polynomial) → AllWithin n d p → AllWithin n d q → AllWithin n d (poly_sum p q)
-AllWithin-sum n d [] q a b = b
-AllWithin-sum n d ((es, c) ∷ p) q a b = AllWithin-add_entry n d es c (poly_sum p q) a.0 (AllWithin-sum n d p q a.1 b)
-
-AllWithin-negative : (n d : ℕ) (p : Polynomial) → AllWithin n d p → AllWithin n d (poly_negative p)
-AllWithin-negative n d [] a = tt
-AllWithin-negative n d ((es, c) ∷ p) a = (a.0, AllWithin-negative n d p a.1)
-
-AllWithin-add_multiple : (n d e : ℕ) (es : List ℕ) (c : ℤ) (q r : Polynomial) → AreWithin n d es → AllWithin n e q → AllWithin n (d + e) r → AllWithin n (d + e) (add_multiple es c q r)
-AllWithin-add_multiple n d e es c [] r a b h = h
-AllWithin-add_multiple n d e es c ((fs, k) ∷ q) r a b h =
-    AllWithin-add_entry n (d + e) (exponents_sum es fs) (c *ℤ k) (add_multiple es c q r) (AreWithin-sum n d e es fs a b.0) (AllWithin-add_multiple n d e es c q r a b.1 h)
-
-AllWithin-product : (n d e : ℕ) (p q : Polynomial) → AllWithin n d p → AllWithin n e q → AllWithin n (d + e) (poly_product p q)
-AllWithin-product n d e [] q a b = tt
-AllWithin-product n d e ((es, c) ∷ p) q a b = AllWithin-add_multiple n d e es c q (poly_product p q) a.0 b (AllWithin-product n d e p q a.1 b)
-
-pub AllWithin-more : (m d n e : ℕ) (p : Polynomial) → m ≤ n → d ≤ e → AllWithin m d p → AllWithin n e p
-AllWithin-more m d n e [] le he a = tt
-AllWithin-more m d n e ((es, c) ∷ p) le he a = (AreWithin-more m d n e es le he a.0, AllWithin-more m d n e p le he a.1)
-
--- Small polynomials.
-pub IsSmall-more : (m d w n e v : ℕ) (p : Polynomial) → m ≤ n → d ≤ e → w ≤ v → IsSmall m d w p → IsSmall n e v p
-IsSmall-more m d w n e v p le he lw s = record { descending = s.descending; within = AllWithin-more m d n e p le he s.within; weight = omega (arith, s.weight) }
-
-pub IsSmall-zero : (n d : ℕ) → IsSmall n d 0 []
-IsSmall-zero n d = record { descending = tt; within = tt; weight = omega arith }
-
-pub IsSmall-sum : (n d w v : ℕ) (p q : Polynomial) → IsSmall n d w p → IsSmall n d v q → IsSmall n d (w + v) (poly_sum p q)
-IsSmall-sum n d w v p q s t = record {
-  descending = descending-sum MOST_VARIABLES p q s.descending t.descending;
-  within = AllWithin-sum n d p q s.within t.within;
-  weight = omega (arith, weight-sum p q, s.weight, t.weight);
-}
-
-pub IsSmall-negative : (n d w : ℕ) (p : Polynomial) → IsSmall n d w p → IsSmall n d w (poly_negative p)
-IsSmall-negative n d w p s = record {
-  descending = descending-negative MOST_VARIABLES p s.descending;
-  within = AllWithin-negative n d p s.within;
-  weight = omega (arith, weight-negative p, s.weight);
-}
-
-pub IsSmall-difference : (n d w v : ℕ) (p q : Polynomial) → IsSmall n d w p → IsSmall n d v q → IsSmall n d (w + v) (poly_difference p q)
-IsSmall-difference n d w v p q s t = IsSmall-sum n d w v p (poly_negative q) s (IsSmall-negative n d v q t)
-
-pub IsSmall-product : (n d e w v : ℕ) (p q : Polynomial) → IsSmall n d w p → IsSmall n e v q → IsSmall n (d + e) (w * v) (poly_product p q)
-IsSmall-product n d e w v p q s t = record {
-  descending = descending-product MOST_VARIABLES p q s.descending t.descending;
-  within = AllWithin-product n d e p q s.within t.within;
-  weight = omega (arith, weight-product p q, mul-le-mul _ _ _ _ s.weight t.weight);
-}
-
-AreWithin-none : (n d k : ℕ) → AreWithin n d (replicate k 0)
-AreWithin-none n d zero = tt
-AreWithin-none zero d (suc k) = (refl, AreWithin-none zero d k)
-AreWithin-none (suc n) d (suc k) = (omega arith, AreWithin-none n d k)
-
-AreWithin-one : (n i k : ℕ) → i < n → AreWithin n 1 (set (replicate k 0) i 1)
-AreWithin-one zero i k below = absurd (omega arith)
-AreWithin-one (suc n) i zero below = tt
-AreWithin-one (suc n) zero (suc k) below = (omega arith, AreWithin-none n 1 k)
-AreWithin-one (suc n) (suc i) (suc k) below = (omega arith, AreWithin-one n i k (omega arith))
-
-pub IsSmall-variable : (n i : ℕ) → i < n → IsSmall n 1 1 (poly_variable MOST_VARIABLES i)
-IsSmall-variable n i below = record {
-  descending = (length-set (replicate MOST_VARIABLES 0) i 1 ∙ constant_length MOST_VARIABLES, one_some, tt, tt);
-  within = (AreWithin-one n i MOST_VARIABLES below, tt);
-  weight = omega arith;
-}
-
--- Primitive parts.
-above-scaled : (es : List ℕ) (k : ℤ) (q : Polynomial) → IsAbove es (poly_scaled k q) → IsAbove es q
-above-scaled es k [] a = tt
-above-scaled es k ((fs, c) ∷ q) a = (a.0, above-scaled es k q a.1)
-
-descending-unscaled : (n : ℕ) (k : ℤ) (q : Polynomial) → IsDescending n (poly_scaled k q) → IsDescending n q
-descending-unscaled n k [] h = tt
-descending-unscaled n k ((es, c) ∷ q) h =
-    (h.0, (λ e. h.1 (ap (λ z. k *ℤ z) e ∙ times_none k)), above-scaled es k q h.2, descending-unscaled n k q h.3)
-  where
-    times_none : (k : ℤ) → k *ℤ pos 0 ≡ pos 0
-    times_none k = omega (arith, ints)
-
 abs-signed : (s : Bool) (z : ℤ) → unsigned_abs (signed_by s z) ≡ unsigned_abs z
 abs-signed true z = abs_neg z
 abs-signed false z = refl
 
-abs-quotient : (c : ℤ) (m : ℕ) → unsigned_abs (quotient_of c m) ≤ unsigned_abs c
+pub abs-quotient : (c : ℤ) (m : ℕ) → unsigned_abs (quotient_of c m) ≤ unsigned_abs c
 abs-quotient (pos a) m = div-le a m
 abs-quotient (negsuc a) m = omega (arith, abs_neg (pos (suc a / m)), div-le (suc a) m)
 
@@ -247,16 +117,39 @@ weight-divided : (s : Bool) (m : ℕ) (p : Polynomial) → weight (entries_divid
 weight-divided s m [] = omega arith
 weight-divided s m ((es, c) ∷ p) = omega (arith, abs-signed s (quotient_of c m), abs-quotient c m, weight-divided s m p)
 
-AllWithin-divided : (n d : ℕ) (s : Bool) (m : ℕ) (p : Polynomial) → AllWithin n d p → AllWithin n d (entries_divided s m p)
-AllWithin-divided n d s m [] a = tt
-AllWithin-divided n d s m ((es, c) ∷ p) a = (a.0, AllWithin-divided n d s m p a.1)
+-- Lengths.
+length-with_entry : (es : List ℕ) (c : ℤ) (p : Polynomial) → length (with_entry es c p) ≤ suc (length p)
+length-with_entry es (pos zero) p = omega arith
+length-with_entry es (pos (suc n)) p = omega arith
+length-with_entry es (negsuc n) p = omega arith
 
-pub IsSmall-primitive_part : (n d w : ℕ) (p : Polynomial) → IsSmall n d w p → IsSmall n d w (primitive_part p)
-IsSmall-primitive_part n d w p s = record {
-  descending = descending-unscaled MOST_VARIABLES (content p) (primitive_part p) (subst (IsDescending MOST_VARIABLES) (sym (content-times-primitive_part p)) s.descending);
-  within = AllWithin-divided n d (begins_negative p) (coefficients_gcd p) p s.within;
-  weight = omega (arith, weight-divided (begins_negative p) (coefficients_gcd p) p, s.weight);
-}
+pub length-add_entry : (es : List ℕ) (c : ℤ) (p : Polynomial) → length (add_entry es c p) ≤ suc (length p)
+length-add_entry es c [] = length-with_entry es c []
+length-add_entry es c ((fs, d) ∷ p) =
+    elim (monomial_cmp es fs) as (λ r. length {A = Entry} (elim r [ Less ↦ (fs, d) ∷ add_entry es c p | Equal ↦ with_entry fs (c +ℤ d) p | Greater ↦ with_entry es c ((fs, d) ∷ p) ])
+    ≤ suc (suc (length p))) [
+      | Less ↦ omega (arith, length-add_entry es c p)
+      | Equal ↦ omega (arith, length-with_entry fs (c +ℤ d) p)
+      | Greater ↦ omega (arith, length-with_entry es c ((fs, d) ∷ p))
+    ]
+
+pub length-sum : (p q : Polynomial) → length (poly_sum p q) ≤ length p + length q
+length-sum [] q = omega arith
+length-sum ((es, c) ∷ p) q = omega (arith, length-add_entry es c (poly_sum p q), length-sum p q)
+
+pub length-negative : (p : Polynomial) → length (poly_negative p) ≡ length p
+length-negative [] = refl
+length-negative ((es, c) ∷ p) = ap suc (length-negative p)
+
+pub length-difference : (p q : Polynomial) → length (poly_difference p q) ≤ length p + length q
+length-difference p q = omega (arith, length-sum p (poly_negative q), length-negative q)
+
+length-divided : (s : Bool) (m : ℕ) (p : Polynomial) → length (entries_divided s m p) ≡ length p
+length-divided s m [] = refl
+length-divided s m ((es, c) ∷ p) = ap suc (length-divided s m p)
+
+pub length-primitive_part : (p : Polynomial) → length (primitive_part p) ≡ length p
+length-primitive_part p = length-divided (begins_negative p) (coefficients_gcd p) p
 
 -- Small polynomials are within the limits.
 some_abs : (c : ℤ) → c ≢ pos 0 → 0 < unsigned_abs c
@@ -264,22 +157,92 @@ some_abs (pos zero) n = absurd (n refl)
 some_abs (pos (suc k)) n = omega arith
 some_abs (negsuc k) n = omega arith
 
-weight-length : (n : ℕ) (p : Polynomial) → IsDescending n p → length p ≤ weight p
-weight-length n [] h = omega arith
-weight-length n ((es, c) ∷ p) h = omega (arith, some_abs c h.1, weight-length n p h.3)
+pub length-weight : (n : ℕ) (p : Polynomial) → IsDescending n p → length p ≤ weight p
+length-weight n [] h = omega arith
+length-weight n ((es, c) ∷ p) h = omega (arith, some_abs c h.1, length-weight n p h.3)
 
 above_test : (e : Entry) (p : Polynomial) → IsAbove e.0 p → is_above e p ≡ true
 above_test e [] a = refl
 above_test e ((fs, c) ∷ p) a = ap is_gt a.0
 
-descending_test : (d w : ℕ) (p : Polynomial) → d ≤ MOST_DEGREE → w ≤ MOST_TERMS → IsDescending MOST_VARIABLES p → AllWithin MOST_VARIABLES d p → weight p ≤ w → are_descending p ≡ true
-descending_test d w [] ld lw h a b = refl
-descending_test d w ((es, c) ∷ p) ld lw h a b =
-    both_true _ _
-    (both_true _ _ (both_true _ _ (eq_true _ _ h.0) (both_true _ _ (lt_true 0 (unsigned_abs c) (some_abs c h.1)) (le_true (unsigned_abs c) MOST_SIZE (omega arith)))) (AreWithin-low MOST_VARIABLES d es ld a.0))
-    (both_true _ _ (above_test (es, c) p h.2) (descending_test d w p ld lw h.3 a.1 (omega arith)))
+eq_true : (a b : ℕ) → a ≡ b → nat_eq a b ≡ true
+eq_true a b e = grind (arith, nat_tests)
 
-pub standard : (p : Polynomial) → IsSmall MOST_VARIABLES MOST_DEGREE MOST_TERMS p → IsTrue (is_standard p)
-standard p s =
-    both_true _ _ (le_true (length p) MOST_TERMS (omega (arith, weight-length MOST_VARIABLES p s.descending, s.weight)))
-    (descending_test MOST_DEGREE MOST_TERMS p (omega arith) (omega arith) s.descending s.within s.weight)
+le_true : (a b : ℕ) → a ≤ b → nat_le a b ≡ true
+le_true a b le = grind (arith, nat_tests)
+
+lt_true : (a b : ℕ) → a < b → nat_lt a b ≡ true
+lt_true a b lt = grind (arith, nat_tests)
+
+descending_test : (p : Polynomial) → IsDescending MOST_VARIABLES p → is_low MOST_DEGREE p ≡ true → weight p ≤ MOST_SIZE → are_descending p ≡ true
+descending_test [] h a b = refl
+descending_test ((es, c) ∷ p) h a b =
+    both_true
+    (both_true (both_true (eq_true _ _ h.0) (both_true (lt_true 0 (unsigned_abs c) (some_abs c h.1)) (le_true (unsigned_abs c) MOST_SIZE (omega arith)))) (first_so (are_low es) (is_low MOST_DEGREE p) a))
+    (both_true (above_test (es, c) p h.2) (descending_test p h.3 (second_so (are_low es) (is_low MOST_DEGREE p) a) (omega arith)))
+
+-- A descending polynomial within the limits is standard.
+pub standard : (p : Polynomial) → IsDescending MOST_VARIABLES p → is_low MOST_DEGREE p ≡ true → weight p ≤ MOST_SIZE → length p ≤ MOST_TERMS → is_standard p ≡ true
+standard p h a b t = both_true (le_true (length p) MOST_TERMS t) (descending_test p h a b)
+
+pub small_terms : (d w : ℕ) (p : Polynomial) → IsSmall d w p → length p ≤ w
+small_terms d w p s = omega (arith, length-weight MOST_VARIABLES p (standard-descending p s.standard), s.weight)
+
+-- Small polynomials.
+pub small-of : (d w : ℕ) (p : Polynomial) → d ≤ MOST_DEGREE → w ≤ MOST_TERMS → IsDescending MOST_VARIABLES p → is_low d p ≡ true → weight p ≤ w → IsSmall d w p
+small-of d w p ld lw h a b = record {
+  standard = standard p h (is_low-more d MOST_DEGREE p ld a) (omega arith) (omega (arith, length-weight MOST_VARIABLES p h));
+  low = a;
+  weight = b;
+}
+
+pub small-more : (d e w v : ℕ) (p : Polynomial) → d ≤ e → w ≤ v → IsSmall d w p → IsSmall e v p
+small-more d e w v p ld lw s = record { standard = s.standard; low = is_low-more d e p ld s.low; weight = omega (arith, s.weight) }
+
+pub small-zero : (d w : ℕ) → IsSmall d w []
+small-zero d w = record { standard = refl; low = refl; weight = omega arith }
+
+pub small-sum : (d w v : ℕ) (p q : Polynomial) → d ≤ MOST_DEGREE → w + v ≤ MOST_TERMS → IsSmall d w p → IsSmall d v q → IsSmall d (w + v) (poly_sum p q)
+small-sum d w v p q ld lw s t =
+    small-of d (w + v) (poly_sum p q) ld lw
+    (descending-sum MOST_VARIABLES p q (standard-descending p s.standard) (standard-descending q t.standard))
+    (every-sum (are_at_most d) p q s.low t.low)
+    (omega (arith, weight-sum p q, s.weight, t.weight))
+
+pub small-negative : (d w : ℕ) (p : Polynomial) → d ≤ MOST_DEGREE → w ≤ MOST_TERMS → IsSmall d w p → IsSmall d w (poly_negative p)
+small-negative d w p ld lw s =
+    small-of d w (poly_negative p) ld lw (descending-negative MOST_VARIABLES p (standard-descending p s.standard))
+    (every-negative (are_at_most d) p s.low) (omega (arith, weight-negative p, s.weight))
+
+pub small-difference : (d w v : ℕ) (p q : Polynomial) → d ≤ MOST_DEGREE → w + v ≤ MOST_TERMS → IsSmall d w p → IsSmall d v q → IsSmall d (w + v) (poly_difference p q)
+small-difference d w v p q ld lw s t = small-sum d w v p (poly_negative q) ld lw s (small-negative d v q ld (omega arith) t)
+
+pub small-product : (d e w v : ℕ) (p q : Polynomial) → d + e ≤ MOST_DEGREE → w * v ≤ MOST_TERMS → IsSmall d w p → IsSmall e v q → IsSmall (d + e) (w * v) (poly_product p q)
+small-product d e w v p q ld lw s t =
+    small-of (d + e) (w * v) (poly_product p q) ld lw
+    (descending-product MOST_VARIABLES p q (standard-descending p s.standard) (standard-descending q t.standard))
+    (is_low-product d e p q s.low t.low)
+    (omega (arith, weight-product p q, mul-le-mul (weight p) w (weight q) v s.weight t.weight))
+
+pub small-variable : (i : ℕ) → IsSmall 1 1 (poly_variable MOST_VARIABLES i)
+small-variable i =
+    small-of 1 1 (poly_variable MOST_VARIABLES i) (omega arith) (omega arith) (descending-variable MOST_VARIABLES i)
+    (both_true (are_one i MOST_VARIABLES) refl) (omega arith)
+
+pub small-one : IsSmall 2 64 (poly_constant MOST_VARIABLES (pos 1))
+small-one =
+    small-of 2 64 (poly_constant MOST_VARIABLES (pos 1)) (omega arith) (omega arith) (descending-constant MOST_VARIABLES (pos 1))
+    (both_true (are_none 2 MOST_VARIABLES) refl) (omega arith)
+
+pub standard-primitive_part : (p : Polynomial) → IsSmall MOST_DEGREE MOST_SIZE p → is_standard (primitive_part p) ≡ true
+standard-primitive_part p s =
+    standard (primitive_part p) (descending-primitive_part MOST_VARIABLES p (standard-descending p s.standard))
+    (every-divided (are_at_most MOST_DEGREE) (begins_negative p) (coefficients_gcd p) p s.low)
+    (omega (arith, weight-divided (begins_negative p) (coefficients_gcd p) p, s.weight))
+    (omega (arith, length-primitive_part p, short p s.standard))
+  where
+    le_of : (a b : ℕ) → nat_le a b ≡ true → a ≤ b
+    le_of a b h = grind (arith, nat_tests)
+
+    short : (p : Polynomial) → is_standard p ≡ true → length p ≤ MOST_TERMS
+    short p h = le_of (length p) MOST_TERMS (first_so (nat_le (length p) MOST_TERMS) (are_descending p) h)

@@ -1,23 +1,40 @@
--- What the code's places and problems stand for.
-use Rattle.std.specs.Prelude.{ℕ, length, Bool, ◌&&◌}
+-- What the code's figures and problems stand for.
+use Rattle.std.specs.Prelude.{◌≡◌, ℕ, length, map, Bool, ◌&&◌, IsTrue, ◌≤◌}
 use Rattle.std.specs.List.{list_all}
+use Rattle.poly_model.specs.Content.{primitive_part}
 use Rattle.poly_model.specs.Polynomial.{Polynomial, is_over}
-use Rattle.poly_model.specs.Standard.{polynomial_of}
-use Rattle.poly_model.specs.declared.limits.TheConstants.{MOST_VARIABLES}
-use Rattle.algebraize.specs.declared.formulas.Place.{Place}
+use Rattle.algebraize.specs.declared.figure.Figure.{Figure}
+use Rattle.algebraize.specs.declared.figure.Effect.{Effect}
+use Rattle.algebraize.specs.declared.figure.Effect.TheVariants as formed
 use Rattle.algebraize.specs.declared.problem.Problem.{Problem}
-use Rattle.algebraize.specs.Vectors.{Vector}
-use Rattle.algebraize.specs.Problem.{Equations}
-use Rattle.algebraize.specs.Small.{IsSmall}
+use Rattle.algebraize.specs.Curves.{Curves, no_line, no_circle}
+use Rattle.algebraize.specs.Equations.{Equations, polynomials}
+use Rattle.algebraize.specs.Figure as figure
+use Rattle.algebraize.specs.Shape.{line_of}
 
--- The place as a vector of polynomials.
-abbrev pub vector_of : Place → Vector Polynomial
-vector_of p = (polynomial_of p.x.items, polynomial_of p.y.items)
+-- The lines and circles of a figure.
+abbrev pub curves_of : Figure → Curves Polynomial
+curves_of f = record { lines = map line_of f.lines.items; circles = f.circles.items }
 
--- Each coordinate is linear in each variable, with coefficients of at most this size together.
-pub record IsSmallPlace (w : ℕ) (p : Place) : Type 0 where
-  pub x : IsSmall MOST_VARIABLES 1 w (polynomial_of p.x.items)
-  pub y : IsSmall MOST_VARIABLES 1 w (polynomial_of p.y.items)
+-- What a figure gives for a point, a line or a circle that was not made.
+pub record HasDefaults (f : Figure) : Type 0 where
+  pub origin : f.origin ≡ (polynomials.zero, polynomials.zero)
+  pub nowhere : line_of f.nowhere ≡ no_line polynomials
+  pub dot : f.dot ≡ no_circle polynomials
+
+-- The effect of a command, with the primitive parts of its conditions.
+abbrev pub primitive_effect : figure.Effect Polynomial → figure.Effect Polynomial
+primitive_effect figure.Nothing = figure.Nothing
+primitive_effect (figure.NewLine l) = figure.NewLine l
+primitive_effect (figure.NewCircle k) = figure.NewCircle k
+primitive_effect (figure.Conditions ps) = figure.Conditions (map primitive_part ps)
+
+-- An effect that the code formed.
+abbrev pub effect_of : Effect → figure.Effect Polynomial
+effect_of formed.Nothing = figure.Nothing
+effect_of (formed.NewLine l) = figure.NewLine (line_of l)
+effect_of (formed.NewCircle k) = figure.NewCircle k
+effect_of (formed.Conditions ps) = figure.Conditions ps.items
 
 -- The equations of a problem.
 abbrev pub equations : Problem → Equations

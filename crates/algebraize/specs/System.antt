@@ -4,7 +4,7 @@ use Rattle.std.specs.List.{flat_map}
 use Rattle.poly_model.specs.Polynomial.{Polynomial}
 use Rattle.poly_model.specs.declared.vars.VarName.{VarName}
 use Rattle.poly_text.specs.Text.{variable_text, poly_text}
-use Rattle.algebraize.specs.Problem.{Equations}
+use Rattle.algebraize.specs.Equations.{Equations}
 
 -- The end of a line.
 abbrev pub line_end : List ℕ

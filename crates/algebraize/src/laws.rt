@@ -2,13 +2,34 @@
 ghost use Rattle.std.specs.Prelude.{◌≤◌, List, ℕ, length};
 ghost use Rattle.gcl_reader.specs.declared.word.Statement.{Statement};
 ghost use Rattle.gcl_names.specs.declared.program.Act.{Act};
+ghost use Rattle.poly_model.specs.declared.limits.TheConstants.{MOST_VARIABLES};
 ghost use Rattle.algebraize.specs.Layout.{layout_of};
-ghost use Rattle.algebraize.specs.Problem.{Mean, equations_of};
+ghost use Rattle.algebraize.specs.Equations.{Mean, equations_of};
+ghost use Rattle.algebraize.specs.Laws.{CutCircleLaw, CutLineLaw, FootLaw, IntersecLaw, LineLaws, MidpointLaw, OncircleLaw, OnlineLaw, StatementLaws, TowardsLaw, TranslateLaw};
 
 use poly_model::Domain;
 
 /// At each point of a domain's space, the equations are zero exactly where the figure there meets what they stand for.
 pub fn equations_mean_their_figure<D: Domain>(_d: &D)
-    ensures { (acts : List Act) (s : Statement) (points : List ℕ) → length (layout_of acts).variables ≤ 48
+    ensures { (acts : List Act) (s : Statement) (points : List ℕ) → length (layout_of acts).variables ≤ MOST_VARIABLES
         → Mean D.operations acts s points (equations_of acts s points) }
+{}
+
+/// The conditions of each construction, and of each line, in other words.
+pub fn constructions_in_other_words<D: Domain>(_d: &D)
+    ensures lines { LineLaws D.operations }
+    ensures midpoint { MidpointLaw D.operations }
+    ensures intersec { IntersecLaw D.operations }
+    ensures foot { FootLaw D.operations }
+    ensures online { OnlineLaw D.operations }
+    ensures oncircle { OncircleLaw D.operations }
+    ensures translate { TranslateLaw D.operations }
+    ensures towards { TowardsLaw D.operations }
+    ensures cut_line { CutLineLaw D.operations }
+    ensures cut_circle { CutCircleLaw D.operations }
+{}
+
+/// The conditions of each statement in other words.
+pub fn statements_in_other_words<D: Domain>(_d: &D)
+    ensures { StatementLaws D.operations }
 {}

@@ -3,12 +3,13 @@ ghost use Rattle.std.specs.Prelude.{◌≡◌, ◌≤◌, ◌<◌, ◌+◌, IfOk
 ghost use Rattle.gcl_reader.specs.Grammar.{Gives};
 ghost use Rattle.poly_model.specs.Names.{are_variables};
 ghost use Rattle.poly_model.specs.declared.limits.TheConstants.{MOST_VARIABLES};
-ghost use Rattle.algebraize.specs.Layout.{empty, free_point, laid, made_point, next, with_place, with_u, with_x};
-ghost use Rattle.algebraize.specs.Problem.{laid_out};
+ghost use Rattle.gcl_reader.specs.declared.refusal.GclFault.TheVariants.{Refused};
+ghost use Rattle.algebraize.specs.Layout.{dependent_point, empty, free_point, next, semi_free_point, with_place, with_points, with_u, with_x};
+ghost use Rattle.algebraize.specs.Problem.{laid_out, too_many_variables};
 
-use crate::refusals::refused;
-use gcl_names::{Act, Deed};
-use gcl_reader::{GclFault, Kind};
+use crate::new_points::{NewPoints, new_points};
+use gcl_names::Act;
+use gcl_reader::{GclFault, Kind, Refusal};
 use poly_model::{MOST_VARIABLES, VarName, Vars};
 use std::alloc::{AllocError, Global};
 use std::marker::Model;
@@ -22,7 +23,7 @@ pub enum Coordinate {
 
 /// The coordinates of the points so far, and the variables that were made for them. Contracts see the layout.
 #[derive(Drop)]
-pub struct Placement {
+pub struct Layout {
     places: Vec<(Coordinate, Coordinate)>,
     variables: Vec<VarName>,
     frees: u8,
@@ -30,7 +31,7 @@ pub struct Placement {
     xs: u8,
 }
 
-impl Model for Placement {
+impl Model for Layout {
     ghost use Rattle.std.specs.Prelude.{◌≡◌, ◌≤◌, ◌+◌, length};
     ghost use Rattle.poly_model.specs.declared.limits.TheConstants.{MOST_VARIABLES};
     ghost use Rattle.algebraize.specs.Layout.{Layout};
@@ -42,11 +43,11 @@ impl Model for Placement {
     ghost invariant = { λ l. (l.us + l.xs ≡ length l.variables.items) × (length l.variables.items ≤ MOST_VARIABLES) × (l.frees ≤ 2) };
 }
 
-impl Placement {
-    fn new(alloc: Global) -> Placement
+impl Layout {
+    fn new(alloc: Global) -> Layout
         ensures { result ≡ empty }
     {
-        Placement {
+        Layout {
             places: Vec::new(alloc),
             variables: Vec::new(alloc),
             frees: 0,
@@ -112,9 +113,9 @@ impl Placement {
         }
     }
 
-    fn made_point(&mut self) -> Result<(), AllocError>
-        requires { length (made_point self.old).variables ≤ MOST_VARIABLES }
-        ensures { OnOk result (self.new ≡ made_point self.old) }
+    fn dependent_point(&mut self) -> Result<(), AllocError>
+        requires { length (dependent_point self.old).variables ≤ MOST_VARIABLES }
+        ensures { OnOk result (self.new ≡ dependent_point self.old) }
     {
         let x = self.next();
         self.add_x()?;
@@ -123,46 +124,60 @@ impl Placement {
         self.add_place(x, y)
     }
 
-    fn lay(&mut self, deed: &Deed) -> Result<(), AllocError>
-        requires { length (laid self.old deed.now).variables ≤ MOST_VARIABLES }
-        ensures { OnOk result (self.new ≡ laid self.old deed.now) }
+    fn semi_free_point(&mut self) -> Result<(), AllocError>
+        requires { length (semi_free_point self.old).variables ≤ MOST_VARIABLES }
+        ensures { OnOk result (self.new ≡ semi_free_point self.old) }
     {
-        match deed {
-            Deed::Point(..) => self.free_point(),
-            Deed::Midpoint(..) => self.made_point(),
-            _ => Ok(()),
+        let x = self.next();
+        self.add_u()?;
+        let y = self.next();
+        self.add_x()?;
+        self.add_place(x, y)
+    }
+
+    fn add_points(&mut self, points: NewPoints) -> Result<(), AllocError>
+        requires { length (with_points points self.old).variables ≤ MOST_VARIABLES }
+        ensures { OnOk result (self.new ≡ with_points points self.old) }
+    {
+        match points {
+            NewPoints::NoPoint => Ok(()),
+            NewPoints::Free => self.free_point(),
+            NewPoints::SemiFree => self.semi_free_point(),
+            NewPoints::Dependent => self.dependent_point(),
+            NewPoints::TwoDependent => {
+                self.dependent_point()?;
+                self.dependent_point()
+            }
         }
     }
 
-    /// How many variables a command makes.
-    fn wanted(&self, deed: &Deed) -> usize
-        ensures { length (laid self.now deed.now).variables ≡ length self.now.variables + result }
+    /// How many variables points take.
+    fn wanted(&self, points: NewPoints) -> usize
+        ensures { length (with_points points self.now).variables ≡ length self.now.variables + result }
     {
-        match deed {
-            Deed::Point(..) => match self.frees {
+        match points {
+            NewPoints::NoPoint => 0,
+            NewPoints::Free => match self.frees {
                 0 => 0,
                 1 => 1,
                 _ => 2,
             },
-            Deed::Midpoint(..) => 2,
-            _ => 0,
+            NewPoints::SemiFree | NewPoints::Dependent => 2,
+            NewPoints::TwoDependent => 4,
         }
     }
 
-    fn has_room(&self, deed: &Deed) -> bool
-        ensures { result ≡ nat_le (length (laid self.now deed.now).variables) MOST_VARIABLES }
+    fn has_room(&self, points: NewPoints) -> bool
+        ensures { result ≡ nat_le (length (with_points points self.now).variables) MOST_VARIABLES }
     {
-        self.variables.len() + self.wanted(deed) <= MOST_VARIABLES
+        self.variables.len() + self.wanted(points) <= MOST_VARIABLES
     }
 
-    /// The coordinates of a point. A point that was not laid out is at the origin.
-    pub fn place(&self, point: u32) -> (Coordinate, Coordinate)
-        ensures { result ≡ get_or self.now.places point (Coordinate.Zero, Coordinate.Zero) }
+    /// The coordinates of the points, in the order of making.
+    pub fn places(&self) -> &[(Coordinate, Coordinate)]
+        ensures { result.now ≡ self.now.places }
     {
-        match self.places.get(point as usize) {
-            Some(place) => *place,
-            None => (Coordinate::Zero, Coordinate::Zero),
-        }
+        &self.places
     }
 
     /// The variables, in the order of making.
@@ -177,18 +192,31 @@ impl Placement {
     }
 }
 
+/// A prove is refused for its variables, at its word.
+fn too_many_variables(prove: &Act) -> GclFault
+    ensures { result ≡ Refused (too_many_variables prove.now) }
+{
+    GclFault::Refused(Refusal {
+        line: prove.line,
+        kind: Kind::TooManyVars,
+        at: prove.at,
+        len: prove.len,
+    })
+}
+
 /// Lays out the points of the acts before a prove. The prove is refused where they want too many variables.
 #[tactic(auto, unfolding(crate::specs::Layout::layout_from))]
-pub fn lay_out(alloc: Global, before: &[Act], prove: &Act) -> Result<Placement, GclFault>
+pub fn lay_out(alloc: Global, before: &[Act], prove: &Act) -> Result<Layout, GclFault>
     ensures { Gives (λ l. l) result (laid_out before.now prove.now) }
 {
-    let mut layout = Placement::new(alloc);
+    let mut layout = Layout::new(alloc);
     let mut rest = before;
     while let Some((act, tail)) = rest.split_first() {
-        if !layout.has_room(&act.deed) {
-            return Err(refused(Kind::TooManyVars, prove));
+        let points = new_points(&act.deed);
+        if !layout.has_room(points) {
+            return Err(too_many_variables(prove));
         }
-        layout.lay(&act.deed)?;
+        layout.add_points(points)?;
         rest = tail;
     }
     Ok(layout)

@@ -1,18 +1,25 @@
 //! Figures and their equations.
 #![tactic(auto)]
 
-mod formulas;
+mod figure;
 mod laws;
 mod layout;
+mod lines;
+mod new_points;
 mod primitive;
 mod problem;
-mod refusals;
+mod ratio;
+mod rows;
 mod system;
 mod terms;
+mod vectors;
 
-pub use laws::equations_mean_their_figure;
-pub use problem::{Problem, form_problem, problems};
+pub use laws::{
+    constructions_in_other_words, equations_mean_their_figure, statements_in_other_words,
+};
+pub use problem::{Problem, problems, system_of};
+pub use ratio::{MILLIONTHS, MOST_MILLIONTHS};
 pub use system::write_system;
 
 #[cfg(test)]
-mod problem_tests;
+mod system_tests;

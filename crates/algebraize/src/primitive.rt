@@ -3,7 +3,7 @@ ghost use Rattle.std.specs.Prelude.{◌≡◌, ◌≢◌, ◌≤◌, ◌<◌, �
 ghost use Rattle.poly_model.specs.Polynomial.{IsDescending};
 ghost use Rattle.poly_model.specs.Content.{coefficients_gcd, entries_divided, primitive_part, quotient_of, signed_by};
 ghost use Rattle.poly_model.specs.Standard.{polynomial_of};
-ghost use Rattle.poly_model.specs.declared.limits.TheConstants.{MOST_DEGREE, MOST_TERMS, MOST_VARIABLES};
+ghost use Rattle.poly_model.specs.declared.limits.TheConstants.{MOST_DEGREE, MOST_SIZE, MOST_VARIABLES};
 ghost use Rattle.algebraize.specs.Small.{IsSmall, weight};
 
 use edge_num::gcd;
@@ -23,9 +23,9 @@ fn common_divisor(terms: &[Term]) -> u128
 }
 
 /// A coefficient divided by a divisor, with its sign turned where so.
-fn divided(coef: i128, turned: bool, divisor: u128) -> i128
+pub fn divided(coef: i128, turned: bool, divisor: u128) -> i128
     requires divisor { 0 < divisor }
-    requires coef { unsigned_abs coef ≤ 2 ^ 32 }
+    requires coef { unsigned_abs coef ≤ MOST_SIZE }
     ensures { result ≡ signed_by turned (quotient_of coef divisor) }
 {
     let size = (coef.unsigned_abs() / divisor) as i128;
@@ -39,7 +39,7 @@ fn all_divided(
     divisor: u128,
 ) -> Result<Vec<Term>, AllocError>
     requires divisor { 0 < divisor }
-    requires terms { weight (polynomial_of terms.now) ≤ 2 ^ 32 }
+    requires terms { weight (polynomial_of terms.now) ≤ MOST_SIZE }
     ensures { IfOk result (λ r. polynomial_of r.items ≡ entries_divided turned divisor (polynomial_of terms.now)) }
 {
     let mut quotients = Vec::new(alloc);
@@ -56,7 +56,7 @@ fn all_divided(
 
 fn primitive_terms(alloc: Global, terms: &[Term]) -> Result<Vec<Term>, AllocError>
     requires descending { IsDescending MOST_VARIABLES (polynomial_of terms.now) }
-    requires bound { weight (polynomial_of terms.now) ≤ 2 ^ 32 }
+    requires size { weight (polynomial_of terms.now) ≤ MOST_SIZE }
     ensures { IfOk result (λ r. polynomial_of r.items ≡ primitive_part (polynomial_of terms.now)) }
 {
     match terms.split_first() {
@@ -67,7 +67,7 @@ fn primitive_terms(alloc: Global, terms: &[Term]) -> Result<Vec<Term>, AllocErro
 
 /// The primitive part of a small polynomial.
 pub fn primitive_part(alloc: Global, terms: &[Term]) -> Result<OwnedPoly, AllocError>
-    requires { IsSmall MOST_VARIABLES MOST_DEGREE MOST_TERMS (polynomial_of terms.now) }
+    requires { IsSmall MOST_DEGREE MOST_SIZE (polynomial_of terms.now) }
     ensures { IfOk result (λ p. p ≡ primitive_part (polynomial_of terms.now)) }
 {
     match OwnedPoly::from_terms(primitive_terms(alloc, terms)?) {

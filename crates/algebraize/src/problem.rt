@@ -1,23 +1,18 @@
 // The problem of a prove.
-ghost use Rattle.std.specs.Prelude.{IsTrue, ◌≡◌, ◌≤◌, ◌<◌, ◌++◌, ◌∷◌, [], IfOk, OnOk, length, map, get_or};
-ghost use Rattle.std.specs.List.{flat_map, list_all};
+ghost use Rattle.std.specs.Prelude.{IsTrue, ◌↔◌, ◌≡◌, ◌<◌, IfOk, OnOk, map};
+ghost use Rattle.std.specs.List.{list_all};
 ghost use Rattle.gcl_names.specs.Sound.{IsSound};
 ghost use Rattle.gcl_reader.specs.Grammar.{Gives};
 ghost use Rattle.poly_model.specs.Content.{primitive_part};
-ghost use Rattle.poly_model.specs.Standard.{polynomial_of};
-ghost use Rattle.poly_model.specs.declared.limits.TheConstants.{MOST_VARIABLES};
-ghost use Rattle.algebraize.specs.Figure.{conclusion, construction, midpoint, parallel, place_of};
-ghost use Rattle.algebraize.specs.Formed.{IsSmallPlace, equations, is_own, vector_of};
-ghost use Rattle.algebraize.specs.Layout.{IsOwn};
-ghost use Rattle.algebraize.specs.Small.{IsSmall};
-ghost use Rattle.algebraize.specs.Problem.{Equations, MeanProve, acts_before, all_read, general_figure, is_prove, is_read, is_stated, polynomials, problem_at, problem_of, problems_of, stated};
+ghost use Rattle.algebraize.specs.Equations.{polynomials};
+ghost use Rattle.algebraize.specs.Figure.{conditions_from};
+ghost use Rattle.algebraize.specs.Formed.{HasDefaults, curves_of, equations, is_own};
+ghost use Rattle.algebraize.specs.Problem.{MeanProve, acts_before, is_prove, problem_at, problem_of, problems_of};
 
-use crate::formulas::{Place, midpoint, parallel, place_at};
-use crate::layout::{Placement, lay_out};
-use crate::primitive::primitive_part;
-use crate::refusals::refused;
+use crate::figure::Figure;
+use crate::layout::lay_out;
 use gcl_names::{Act, Deed, Program};
-use gcl_reader::{GclFault, Kind, Statement};
+use gcl_reader::{GclFault, Statement};
 use poly_model::{Domain, Integers, OwnedPoly, Row, Vars};
 use std::alloc::{AllocError, Global};
 
@@ -29,166 +24,75 @@ pub struct Problem {
     pub cons: Row<OwnedPoly>,
 }
 
-/// The place of a point, over the variables of the layout.
-fn place_of(alloc: Global, layout: &Placement, point: u32) -> Result<Place, AllocError>
-    requires own { IsOwn layout.now }
-    requires within { length layout.now.variables ≤ MOST_VARIABLES }
-    ensures place { IfOk result (λ p. vector_of p ≡ place_of polynomials (general_figure layout.now) point) }
-    ensures small { IfOk result (λ p. IsSmallPlace 1 p) }
+fn same_variables(a: &Vars, b: &Vars) -> bool
+    ensures { IsTrue result ↔ (a.now ≡ b.now) }
 {
-    let (x, y) = layout.place(point);
-    place_at(alloc, x, y)
+    if a.len() != b.len() {
+        return false;
+    }
+    for i in 0..a.len() {
+        if a.at(i) != b.at(i) {
+            return false;
+        }
+    }
+    true
 }
 
-/// Adds the equations that say that M is the midpoint of A and B.
-fn add_midpoint(
-    alloc: Global,
-    layout: &Placement,
-    m: u32,
-    a: u32,
-    b: u32,
-    equations: &mut Vec<OwnedPoly>,
-) -> Result<(), AllocError>
-    requires own { IsOwn layout.now }
-    requires within { length layout.now.variables ≤ MOST_VARIABLES }
-    ensures { OnOk result (equations.new.items ≡ equations.old.items ++ map primitive_part (midpoint polynomials (place_of polynomials (general_figure layout.now) m) (place_of polynomials (general_figure layout.now) a) (place_of polynomials (general_figure layout.now) b))) }
+fn same_polynomials(a: &[OwnedPoly], b: &[OwnedPoly]) -> bool
+    ensures { IsTrue result ↔ (a.now ≡ b.now) }
 {
-    let m = place_of(alloc, layout, m)?;
-    let a = place_of(alloc, layout, a)?;
-    let b = place_of(alloc, layout, b)?;
-    let Place { x, y } = midpoint(alloc, &m, &a, &b)?;
-    equations.push(primitive_part(alloc, &x)?)?;
-    equations.push(primitive_part(alloc, &y)?)?;
-    Ok(())
+    let mut left = a;
+    let mut right = b;
+    while let Some((p, others)) = left.split_first() {
+        let Some((q, more)) = right.split_first() else {
+            return false;
+        };
+        if !p.equals(q) {
+            return false;
+        }
+        left = others;
+        right = more;
+    }
+    right.is_empty()
 }
 
-/// Adds the equation that says that AB is parallel to CD.
-fn add_parallel(
-    alloc: Global,
-    layout: &Placement,
-    a: u32,
-    b: u32,
-    c: u32,
-    d: u32,
-    equations: &mut Vec<OwnedPoly>,
-) -> Result<(), AllocError>
-    requires own { IsOwn layout.now }
-    requires within { length layout.now.variables ≤ MOST_VARIABLES }
-    ensures { OnOk result (equations.new.items ≡ equations.old.items ++ primitive_part (parallel polynomials (place_of polynomials (general_figure layout.now) a) (place_of polynomials (general_figure layout.now) b) (place_of polynomials (general_figure layout.now) c) (place_of polynomials (general_figure layout.now) d)) ∷ []) }
-{
-    let a = place_of(alloc, layout, a)?;
-    let b = place_of(alloc, layout, b)?;
-    let c = place_of(alloc, layout, c)?;
-    let d = place_of(alloc, layout, d)?;
-    let cross = parallel(alloc, &a, &b, &c, &d)?;
-    equations.push(primitive_part(alloc, &cross)?)?;
-    Ok(())
-}
-
-/// Adds what a command makes zero.
-fn add_construction(
-    alloc: Global,
-    layout: &Placement,
-    deed: &Deed,
-    equations: &mut Vec<OwnedPoly>,
-) -> Result<(), AllocError>
-    requires own { IsOwn layout.now }
-    requires within { length layout.now.variables ≤ MOST_VARIABLES }
-    ensures { OnOk result (equations.new.items ≡ equations.old.items ++ map primitive_part (construction polynomials (general_figure layout.now) deed.now)) }
-{
-    match deed {
-        Deed::Midpoint(m, a, b) => add_midpoint(alloc, layout, *m, *a, *b, equations),
-        _ => Ok(()),
+impl Problem {
+    /// The two have the same variables, hypotheses and conclusions, in the same order.
+    pub fn equals(&self, other: &Problem) -> bool
+        ensures { IsTrue result ↔ (self.now ≡ other.now) }
+    {
+        same_variables(&self.vars, &other.vars)
+            && same_polynomials(self.hyps.as_slice(), other.hyps.as_slice())
+            && same_polynomials(self.cons.as_slice(), other.cons.as_slice())
     }
 }
 
-fn hypotheses(alloc: Global, layout: &Placement, acts: &[Act]) -> Result<Row<OwnedPoly>, AllocError>
-    requires own { IsOwn layout.now }
-    requires within { length layout.now.variables ≤ MOST_VARIABLES }
-    ensures { IfOk result (λ row. row ≡ map primitive_part (flat_map (λ a. construction polynomials (general_figure layout.now) a.deed) acts.now)) }
+/// What the acts make zero, over the places of the figure.
+fn hypotheses(
+    alloc: Global,
+    figure: &mut Figure,
+    acts: &[Act],
+) -> Result<Row<OwnedPoly>, AllocError>
+    requires { HasDefaults figure.old }
+    ensures places { OnOk result (figure.new.places.items ≡ figure.old.places.items) }
+    ensures defaults { OnOk result (HasDefaults figure.new) }
+    ensures value { IfOk result (λ row. row ≡ map primitive_part
+        (conditions_from polynomials figure.old.places.items (curves_of figure.old) acts.now)) }
 {
     let mut equations = Vec::new(alloc);
     let mut rest = acts;
     while let Some((act, tail)) = rest.split_first() {
-        add_construction(alloc, layout, &act.deed, &mut equations)?;
+        let effect = figure.effect(alloc, &act.deed)?;
+        figure.take(effect, &mut equations)?;
         rest = tail;
     }
     Ok(Row::from_vec(equations))
-}
-
-fn conclusions(
-    alloc: Global,
-    layout: &Placement,
-    statement: Statement,
-    points: &[u32],
-) -> Result<Row<OwnedPoly>, AllocError>
-    requires own { IsOwn layout.now }
-    requires within { length layout.now.variables ≤ MOST_VARIABLES }
-    ensures { IfOk result (λ row. row ≡ map primitive_part (conclusion polynomials (general_figure layout.now) statement points.now)) }
-{
-    let mut equations = Vec::new(alloc);
-    match (statement, points) {
-        (Statement::Midpoint, [m, a, b]) => {
-            add_midpoint(alloc, layout, *m, *a, *b, &mut equations)?;
-        }
-        (Statement::Parallel, [a, b, c, d]) => {
-            add_parallel(alloc, layout, *a, *b, *c, *d, &mut equations)?;
-        }
-        _ => {}
-    }
-    Ok(Row::from_vec(equations))
-}
-
-fn is_read(deed: &Deed) -> bool
-    ensures { result ≡ is_read deed.now }
-{
-    !matches!(
-        deed,
-        Deed::Intersec(..)
-            | Deed::CutLine { .. }
-            | Deed::CutCircle { .. }
-            | Deed::Foot(..)
-            | Deed::Online(..)
-            | Deed::Oncircle(..)
-            | Deed::Translate(..)
-            | Deed::Towards(..)
-    )
-}
-
-fn is_stated(statement: Statement) -> bool
-    ensures { result ≡ is_stated statement }
-{
-    matches!(statement, Statement::Midpoint | Statement::Parallel)
 }
 
 fn is_prove(deed: &Deed) -> bool
     ensures { result ≡ is_prove deed.now }
 {
     matches!(deed, Deed::Prove(..))
-}
-
-#[tactic(auto, unfolding(crate::specs::Problem::all_read))]
-fn all_read(acts: &[Act]) -> Result<(), GclFault>
-    ensures { Gives (λ _. tt) result (all_read acts.now) }
-{
-    let mut rest = acts;
-    while let Some((act, tail)) = rest.split_first() {
-        if !is_read(&act.deed) {
-            return Err(refused(Kind::UnknownCommand, act));
-        }
-        rest = tail;
-    }
-    Ok(())
-}
-
-fn stated(prove: &Act, statement: Statement) -> Result<(), GclFault>
-    ensures { Gives (λ _. tt) result (stated prove.now statement) }
-{
-    if is_stated(statement) {
-        Ok(())
-    } else {
-        Err(refused(Kind::UnknownCommand, prove))
-    }
 }
 
 /// The problem of a prove behind these acts.
@@ -202,13 +106,12 @@ fn problem_at(
 ) -> Result<Problem, GclFault>
     ensures { Gives equations result (problem_at before.now prove.now statement points.now) }
 {
-    all_read(before)?;
-    stated(prove, statement)?;
     let layout = lay_out(alloc, before, prove)?;
+    let mut figure = Figure::general(alloc, &layout)?;
     Ok(Problem {
         vars: layout.vars(),
-        hyps: hypotheses(alloc, &layout, before)?,
-        cons: conclusions(alloc, &layout, statement, points)?,
+        hyps: hypotheses(alloc, &mut figure, before)?,
+        cons: Row::from_vec(figure.conclusions(alloc, statement, points)?),
     })
 }
 
@@ -235,9 +138,9 @@ fn acts_before(acts: &[Act], prove: u32) -> usize
 
 /// The problem of a prove of a sound program, counted from 0.
 ///
-/// It is refused where a construction before the prove or its statement has no equations yet, and where the points want
-/// more than 48 variables. The domain is not used: the call tells what the equations mean in it.
-pub fn form_problem<D: Domain>(
+/// It is refused where the points before the prove want more than `MOST_VARIABLES` variables. The domain is not used: the
+/// call tells what the equations mean in it.
+pub fn system_of<D: Domain>(
     alloc: Global,
     _domain: &D,
     program: &Program,
@@ -273,7 +176,7 @@ pub fn problems(alloc: Global, program: &Program) -> Result<Vec<Problem>, GclFau
     let mut problems = Vec::new(alloc);
     let mut prove = 0;
     while prove < program.proves {
-        problems.push(form_problem(alloc, &Integers, program, prove)?)?;
+        problems.push(system_of(alloc, &Integers, program, prove)?)?;
         prove += 1;
     }
     Ok(problems)

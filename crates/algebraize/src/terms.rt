@@ -1,10 +1,11 @@
 // Arithmetic on short lists of terms in descending order. Each function has a bound on what it takes, so that nothing overflows.
-ghost use Rattle.std.specs.Prelude.{◌≡◌, ◌≤◌, ◌<◌, ◌+◌, ◌*◌, ◌^◌, ◌++◌, ◌∷◌, List, [], IfOk, OnOk, IsTrue, IsSome, unsigned_abs, length, ◌↔◌};
-ghost use Rattle.poly_model.specs.Polynomial.{IsDescending, add_entry, add_multiple, exponents_sum, poly_sum, poly_negative, poly_difference, poly_product, poly_variable};
-ghost use Rattle.poly_model.specs.Content.{begins_negative, coefficients_gcd, primitive_part, quotient_of, signed_by};
+ghost use Rattle.std.specs.Prelude.{pos, ◌≡◌, ◌≤◌, ◌<◌, ◌+◌, ◌*◌, ◌^◌, ◌++◌, ◌∷◌, List, [], IfOk, OnOk, IsTrue, IsSome, unsigned_abs, length, ◌↔◌};
+ghost use Rattle.poly_model.specs.Domain.{integer_in};
+ghost use Rattle.poly_model.specs.Polynomial.{IsDescending, add_entry, add_multiple, exponents_sum, poly_constant, poly_difference, poly_negative, poly_product, poly_scaled, poly_sum, poly_variable};
 ghost use Rattle.poly_model.specs.Standard.{are_low, polynomial_of};
-ghost use Rattle.poly_model.specs.declared.limits.TheConstants.{MOST_DEGREE, MOST_VARIABLES};
-ghost use Rattle.algebraize.specs.Small.{AllWithin, IsSmall, weight};
+ghost use Rattle.poly_model.specs.declared.limits.TheConstants.{MOST_DEGREE, MOST_SIZE, MOST_VARIABLES};
+ghost use Rattle.algebraize.specs.Equations.{polynomials};
+ghost use Rattle.algebraize.specs.Small.{is_low, weight};
 ghost use Rattle.algebraize.specs.Terms.{StandsAt, Stops, with_coefficient};
 
 use poly_model::{MOST_VARIABLES, Term, compare_monomials};
@@ -19,6 +20,18 @@ pub fn variable(alloc: Global, place: u8) -> Result<Vec<Term>, AllocError>
     exps[place as usize] = 1;
     let mut terms = Vec::new(alloc);
     terms.push(Term { coef: 1, exps })?;
+    Ok(terms)
+}
+
+/// The constant 1.
+pub fn constant_one(alloc: Global) -> Result<Vec<Term>, AllocError>
+    ensures { IfOk result (λ terms. polynomial_of terms.items ≡ poly_constant MOST_VARIABLES (pos 1)) }
+{
+    let mut terms = Vec::new(alloc);
+    terms.push(Term {
+        coef: 1,
+        exps: [0; MOST_VARIABLES],
+    })?;
     Ok(terms)
 }
 
@@ -56,8 +69,7 @@ fn stands_at(terms: &[Term], place: usize, exps: &[u8; MOST_VARIABLES]) -> bool
 /// Adds to the coefficient of the term at a place. A term whose coefficient becomes 0 goes.
 fn add_coefficient(terms: &mut Vec<Term>, place: usize, coef: i128)
     requires place { place < length terms.old.items }
-    requires terms { weight (polynomial_of terms.old.items) ≤ 2 ^ 32 }
-    requires coef { unsigned_abs coef ≤ 2 ^ 32 }
+    requires size { unsigned_abs coef + weight (polynomial_of terms.old.items) ≤ MOST_SIZE }
     ensures { polynomial_of terms.new.items ≡ with_coefficient (polynomial_of terms.old.items) place coef }
 {
     let sum = coef + terms[place].coef;
@@ -70,8 +82,7 @@ fn add_coefficient(terms: &mut Vec<Term>, place: usize, coef: i128)
 
 /// Adds one term, at its place in the order.
 fn add_term(terms: &mut Vec<Term>, term: Term) -> Result<(), AllocError>
-    requires terms { weight (polynomial_of terms.old.items) ≤ 2 ^ 32 }
-    requires term { unsigned_abs term.coef ≤ 2 ^ 32 }
+    requires { unsigned_abs term.coef + weight (polynomial_of terms.old.items) ≤ MOST_SIZE }
     ensures { OnOk result (polynomial_of terms.new.items ≡ add_entry term.exps term.coef (polynomial_of terms.old.items)) }
 {
     let place = terms_above(terms, &term.exps);
@@ -85,10 +96,8 @@ fn add_term(terms: &mut Vec<Term>, term: Term) -> Result<(), AllocError>
     Ok(())
 }
 
-/// The sum of two polynomials.
-fn sum(p: &[Term], mut q: Vec<Term>) -> Result<Vec<Term>, AllocError>
-    requires p { weight (polynomial_of p.now) ≤ 2 ^ 30 }
-    requires q { weight (polynomial_of q.items) ≤ 2 ^ 30 }
+fn sum_onto(p: &[Term], mut q: Vec<Term>) -> Result<Vec<Term>, AllocError>
+    requires { weight (polynomial_of p.now) + weight (polynomial_of q.items) ≤ MOST_SIZE }
     ensures { IfOk result (λ r. polynomial_of r.items ≡ poly_sum (polynomial_of p.now) (polynomial_of q.items)) }
 {
     let mut rest = p;
@@ -99,9 +108,17 @@ fn sum(p: &[Term], mut q: Vec<Term>) -> Result<Vec<Term>, AllocError>
     Ok(q)
 }
 
+/// The sum of two polynomials.
+pub fn sum(alloc: Global, p: &[Term], q: &[Term]) -> Result<Vec<Term>, AllocError>
+    requires { weight (polynomial_of p.now) + weight (polynomial_of q.now) ≤ MOST_SIZE }
+    ensures { IfOk result (λ r. polynomial_of r.items ≡ poly_sum (polynomial_of p.now) (polynomial_of q.now)) }
+{
+    sum_onto(p, Vec::from_slice(alloc, q)?)
+}
+
 /// The negative of a polynomial.
-fn negative(alloc: Global, p: &[Term]) -> Result<Vec<Term>, AllocError>
-    requires { weight (polynomial_of p.now) ≤ 2 ^ 30 }
+pub fn negative(alloc: Global, p: &[Term]) -> Result<Vec<Term>, AllocError>
+    requires { weight (polynomial_of p.now) ≤ MOST_SIZE }
     ensures { IfOk result (λ r. polynomial_of r.items ≡ poly_negative (polynomial_of p.now)) }
 {
     let mut negated = Vec::new(alloc);
@@ -118,28 +135,45 @@ fn negative(alloc: Global, p: &[Term]) -> Result<Vec<Term>, AllocError>
 
 /// The difference of two polynomials.
 pub fn difference(alloc: Global, p: &[Term], q: &[Term]) -> Result<Vec<Term>, AllocError>
-    requires p { weight (polynomial_of p.now) ≤ 2 ^ 30 }
-    requires q { weight (polynomial_of q.now) ≤ 2 ^ 30 }
+    requires { weight (polynomial_of p.now) + weight (polynomial_of q.now) ≤ MOST_SIZE }
     ensures { IfOk result (λ r. polynomial_of r.items ≡ poly_difference (polynomial_of p.now) (polynomial_of q.now)) }
 {
-    sum(p, negative(alloc, q)?)
+    sum_onto(p, negative(alloc, q)?)
 }
 
-/// Twice a polynomial.
-pub fn twice(alloc: Global, p: &[Term]) -> Result<Vec<Term>, AllocError>
-    requires { weight (polynomial_of p.now) ≤ 2 ^ 30 }
-    ensures { IfOk result (λ r. polynomial_of r.items ≡ poly_sum (polynomial_of p.now) (polynomial_of p.now)) }
+fn scaled(alloc: Global, factor: i128, p: &[Term]) -> Result<Vec<Term>, AllocError>
+    requires { unsigned_abs factor * weight (polynomial_of p.now) ≤ MOST_SIZE }
+    ensures { IfOk result (λ r. polynomial_of r.items ≡ poly_scaled factor (polynomial_of p.now)) }
 {
-    sum(p, Vec::from_slice(alloc, p)?)
+    let mut multiples = Vec::new(alloc);
+    let mut rest = p;
+    while let Some((term, tail)) = rest.split_first() {
+        multiples.push(Term {
+            coef: factor * term.coef,
+            exps: term.exps,
+        })?;
+        rest = tail;
+    }
+    Ok(multiples)
+}
+
+/// A whole number times a polynomial.
+pub fn multiple(alloc: Global, factor: i128, p: &[Term]) -> Result<Vec<Term>, AllocError>
+    requires descending { IsDescending MOST_VARIABLES (polynomial_of p.now) }
+    requires size { unsigned_abs factor * weight (polynomial_of p.now) ≤ MOST_SIZE }
+    ensures { IfOk result (λ r. polynomial_of r.items ≡ poly_product (integer_in polynomials factor) (polynomial_of p.now)) }
+{
+    if factor == 0 {
+        return Ok(Vec::new(alloc));
+    }
+    scaled(alloc, factor, p)
 }
 
 /// Adds one term times a polynomial.
 fn add_multiple(sum: &mut Vec<Term>, term: &Term, q: &[Term]) -> Result<(), AllocError>
-    requires bound { unsigned_abs term.now.coef * weight (polynomial_of q.now) + weight (polynomial_of sum.old.items) ≤ 2 ^ 20 }
-    requires coef { unsigned_abs term.now.coef ≤ 2 ^ 20 }
+    requires size { unsigned_abs term.now.coef * weight (polynomial_of q.now) + weight (polynomial_of sum.old.items) ≤ MOST_SIZE }
     requires low { IsTrue (are_low term.now.exps) }
-    requires q { weight (polynomial_of q.now) ≤ 2 ^ 20 }
-    requires within { AllWithin MOST_VARIABLES MOST_DEGREE (polynomial_of q.now) }
+    requires q { IsTrue (is_low MOST_DEGREE (polynomial_of q.now)) }
     ensures { OnOk result (polynomial_of sum.new.items ≡ add_multiple term.now.exps term.now.coef (polynomial_of q.now) (polynomial_of sum.old.items)) }
 {
     let mut rest = q;
@@ -158,8 +192,9 @@ fn add_multiple(sum: &mut Vec<Term>, term: &Term, q: &[Term]) -> Result<(), Allo
 
 /// The product of two polynomials.
 pub fn product(alloc: Global, p: &[Term], q: &[Term]) -> Result<Vec<Term>, AllocError>
-    requires p { IsSmall MOST_VARIABLES MOST_DEGREE (2 ^ 10) (polynomial_of p.now) }
-    requires q { IsSmall MOST_VARIABLES MOST_DEGREE (2 ^ 10) (polynomial_of q.now) }
+    requires size { weight (polynomial_of p.now) * weight (polynomial_of q.now) ≤ MOST_SIZE }
+    requires p { IsTrue (is_low MOST_DEGREE (polynomial_of p.now)) }
+    requires q { IsTrue (is_low MOST_DEGREE (polynomial_of q.now)) }
     ensures { IfOk result (λ r. polynomial_of r.items ≡ poly_product (polynomial_of p.now) (polynomial_of q.now)) }
 {
     let mut product = Vec::new(alloc);

@@ -10,12 +10,7 @@ vars-requires c =
     let h = proves.laid_out-ok c.args.before.now c.args.prove.now c.in_ok-layout.layout c.in_ok-layout.ensures in
     subst (λ (l : Layout). IsTrue (are_variables l.variables)) (sym h.0) (proves.variables_of_layout c.args.before.now h.1)
 
-pub hypotheses-requires-clause-own : goal.hypotheses-requires-clause-own
-hypotheses-requires-clause-own c =
-    let h = proves.laid_out-ok c.args.before.now c.args.prove.now c.in_ok-layout.layout c.in_ok-layout.ensures in
-    subst IsOwn (sym h.0) (coordinates_own c.args.before.now)
-
-pub conclusions-requires-clause-own : goal.conclusions-requires-clause-own
-conclusions-requires-clause-own c =
+pub general-requires-clause-own : goal.general-requires-clause-own
+general-requires-clause-own c =
     let h = proves.laid_out-ok c.args.before.now c.args.prove.now c.in_ok-layout.layout c.in_ok-layout.ensures in
     subst IsOwn (sym h.0) (coordinates_own c.args.before.now)

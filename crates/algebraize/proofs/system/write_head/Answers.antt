@@ -2,7 +2,7 @@ use Rattle.std.proofs.Common.{◌≡◌, ◌++◌, codes, decimal, append_assoc,
 use Rattle.desk_io.proofs.Growth.{Grew-then}
 use Rattle.desk_io.proofs.Writing.{first_failed, next_failed, last_writes}
 use Rattle.algebraize.specs.System.{names_text}
-use Rattle.algebraize.proofs.Lines as lines
+use Rattle.algebraize.proofs.Texts as lines
 use Rattle.algebraize.proofs.system.write_head.Goals as goal
 
 pub returns-in_err-push-clause-bytes : goal.returns-in_err-push-clause-bytes

@@ -1,6 +1,6 @@
 use Rattle.std.proofs.Common.{arith}
 use Rattle.desk_io.proofs.Going.{wrote, stopped, ended}
-use Rattle.algebraize.proofs.Lines as lines
+use Rattle.algebraize.proofs.Texts as lines
 use Rattle.algebraize.proofs.system.write_names.Goals as goal
 
 pub returns-in_err-write_name-clause-bytes : goal.returns-in_err-write_name-clause-bytes

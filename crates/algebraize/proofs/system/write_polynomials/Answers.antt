@@ -1,6 +1,6 @@
 use Rattle.std.proofs.Common.{length, arith}
 use Rattle.desk_io.proofs.Going.{wrote, stopped}
-use Rattle.algebraize.proofs.Lines as lines
+use Rattle.algebraize.proofs.Texts as lines
 use Rattle.algebraize.proofs.system.write_polynomials.Goals as goal
 
 pub write_polynomial-requires : goal.write_polynomial-requires

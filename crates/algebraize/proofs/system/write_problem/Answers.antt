@@ -5,7 +5,7 @@ use Rattle.algebraize.specs.Formed.{equations}
 use Rattle.algebraize.specs.System.{line_end, polynomial_lines}
 use Rattle.std.specs.List.{list_all}
 use Rattle.poly_model.specs.Polynomial.{is_over}
-use Rattle.algebraize.proofs.Lines as lines
+use Rattle.algebraize.proofs.Texts as lines
 use Rattle.algebraize.proofs.system.write_problem.Goals as goal
 
 pub write_polynomials-requires : goal.write_polynomials-requires

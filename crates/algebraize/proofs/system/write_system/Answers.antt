@@ -1,6 +1,6 @@
 use Rattle.std.proofs.Common.{arith}
 use Rattle.desk_io.proofs.Going.{wrote, stopped}
-use Rattle.algebraize.proofs.Lines as lines
+use Rattle.algebraize.proofs.Texts as lines
 use Rattle.algebraize.proofs.system.write_system.Goals as goal
 
 pub write_problem-requires : goal.write_problem-requires

@@ -14,7 +14,7 @@ add_coefficient-requires-clause-place c =
 
 pub returns-then-stands_at : goal.returns-then-stands_at
 returns-then-stands_at c =
-    let fits : SFits w128 c.args.term.coef = omega (arith, ints, c.requires.term) in
+    let fits : SFits w128 c.args.term.coef = omega (arith, ints, c.requires) in
     simp to_z-of_z at c.add_coefficient.ensures
     ∙ changes.combined c.args.term.exps c.args.term.coef c.args.terms.now.items c.terms_above-place.result
     (subst (λ ts. Stops c.args.term.exps ts c.terms_above-place.result) c.deref.ensures.value c.terms_above-place.ensures.stops)
@@ -30,7 +30,7 @@ returns-in_ok-insert c =
 
 pub returns-else-term-ne0 : goal.returns-else-term-ne0
 returns-else-term-ne0 c =
-    let fits : SFits w128 c.args.term.coef = omega (arith, ints, c.requires.term) in
+    let fits : SFits w128 c.args.term.coef = omega (arith, ints, c.requires) in
     changes.kept c.args.term.exps c.args.term.coef c.args.terms.now.items c.terms_above-place.result
     (subst (λ ts. Stops c.args.term.exps ts c.terms_above-place.result) c.deref.ensures.value c.terms_above-place.ensures.stops)
     (λ stands. let t : true ≡ false = sym (c.stands_at.ensures.1 (subst (λ ts. StandsAt c.args.term.exps ts c.terms_above-place.result) (sym c.deref-2.ensures.value) stands)) ∙ c.if-stands_at.false in absurd (cc))

@@ -4,5 +4,5 @@ use Rattle.algebraize.specs.Small.{weight}
 use Rattle.algebraize.proofs.Small as small
 use Rattle.algebraize.proofs.terms.difference.Goals as goal
 
-pub sum-requires-clause-q : goal.sum-requires-clause-q
-sum-requires-clause-q c = omega (arith, ap weight c.in_ok-negative.ensures, small.weight-negative (polynomial_of c.args.q.now), c.requires.q)
+pub sum_onto-requires : goal.sum_onto-requires
+sum_onto-requires c = omega (arith, ap weight c.in_ok-negative.ensures, small.weight-negative (polynomial_of c.args.q.now), c.requires)

@@ -1,13 +1,14 @@
-use Rattle.std.proofs.Common.{◌≡◌, ◌≤◌, ◌^◌, ◌++◌, length}
+use Rattle.std.proofs.Common.{◌≡◌, ◌≤◌, ◌++◌, length}
 use Rattle.poly_model.specs.Polynomial.{poly_negative}
 use Rattle.poly_model.specs.Standard.{polynomial_of}
+use Rattle.poly_model.specs.declared.limits.TheConstants.{MOST_SIZE}
 use Rattle.algebraize.specs.Small.{weight}
 use Rattle.algebraize.proofs.terms.negative.Given as goal
 
 abbrev pub invariant-loop-term : goal.invariant-loop-term
 invariant-loop-term l = record {
   value : polynomial_of l.negated.items ++ poly_negative (polynomial_of l.rest) ≡ poly_negative (polynomial_of l.fn.p);
-  bound : weight (polynomial_of l.rest) ≤ 2 ^ 30;
+  bound : weight (polynomial_of l.rest) ≤ MOST_SIZE;
 }
 
 abbrev pub decreases-loop-term : goal.decreases-loop-term

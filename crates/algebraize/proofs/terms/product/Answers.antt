@@ -1,8 +1,9 @@
-use Rattle.std.proofs.Common.{◌*◌, ◌^◌, sym, ◌∙◌, ap, subst, arith}
+use Rattle.std.proofs.Common.{◌≡◌, ◌*◌, sym, true, ◌∙◌, ap, subst, arith}
 use Rattle.std.specs.Prelude.{unsigned_abs}
 use Rattle.poly_model.specs.Standard.{polynomial_of}
-use Rattle.poly_model.specs.declared.limits.TheConstants.{MOST_DEGREE, MOST_VARIABLES}
-use Rattle.algebraize.specs.Small.{weight, AllWithin}
+use Rattle.poly_model.specs.declared.limits.TheConstants.{MOST_DEGREE}
+use Rattle.algebraize.specs.Small.{weight, are_at_most, is_low}
+use Rattle.algebraize.proofs.Every.{every-last}
 use Rattle.algebraize.proofs.Changes as changes
 use Rattle.algebraize.proofs.Small as small
 use Rattle.algebraize.proofs.Changes.{multiples}
@@ -14,13 +15,12 @@ loop-last-init c =
     let q = polynomial_of c.args.q.now in
     record {
       value = ap (λ l. multiples p q (polynomial_of l)) c.new-product.ensures.items ∙ changes.multiples-none p q;
-      bound = omega (arith, ap (λ l. weight (polynomial_of l)) c.new-product.ensures.items, small.product-bound (weight p) (2 ^ 10) (weight q) (2 ^ 10) c.requires.p.weight c.requires.q.weight);
-      p_bound = c.requires.p.weight;
-      within = c.requires.p.within;
+      bound = omega (arith, ap (λ l. weight (polynomial_of l)) c.new-product.ensures.items, c.requires.size);
+      low = c.requires.p;
     }
 
-pub add_multiple-requires-clause-bound : goal.add_multiple-requires-clause-bound
-add_multiple-requires-clause-bound c =
+pub add_multiple-requires-clause-size : goal.add_multiple-requires-clause-size
+add_multiple-requires-clause-size c =
     let last = c.in-Some.last.now in
     let front = c.in-Some.front.now in
     let q = polynomial_of c.args.q.now in
@@ -28,15 +28,10 @@ add_multiple-requires-clause-bound c =
     let product = ap (λ w. w * weight q) whole ∙ small.distribute_back (weight (polynomial_of front)) (unsigned_abs last.coef) (weight q) in
     omega (arith, product, c.loop-last.invariant.bound)
 
-pub add_multiple-requires-clause-coef : goal.add_multiple-requires-clause-coef
-add_multiple-requires-clause-coef c =
-    let whole = ap (λ l. weight (polynomial_of l)) c.in-Some.ensures.cases.0 ∙ small.weight-last c.in-Some.front.now c.in-Some.last.now in
-    omega (arith, whole, c.loop-last.invariant.p_bound)
-
 pub add_multiple-requires-clause-low : goal.add_multiple-requires-clause-low
 add_multiple-requires-clause-low c =
-    small.AreWithin-low MOST_VARIABLES MOST_DEGREE c.in-Some.last.now.exps (omega arith)
-    (small.AllWithin-last MOST_VARIABLES MOST_DEGREE c.in-Some.front.now c.in-Some.last.now (subst (λ l. AllWithin MOST_VARIABLES MOST_DEGREE (polynomial_of l)) c.in-Some.ensures.cases.0 c.loop-last.invariant.within)).1
+    (every-last (are_at_most MOST_DEGREE) c.in-Some.front.now c.in-Some.last.now
+    (subst (λ l. is_low MOST_DEGREE (polynomial_of l) ≡ true) c.in-Some.ensures.cases.0 c.loop-last.invariant.low)).1
 
 pub loop-last-preserved : goal.loop-last-preserved
 loop-last-preserved c =
@@ -51,6 +46,5 @@ loop-last-preserved c =
       value = ap (multiples (polynomial_of front) q) added ∙ sym (changes.multiples-last front last q r)
           ∙ ap (λ l. multiples (polynomial_of l) q r) (sym c.in-Some.ensures.cases.0) ∙ c.loop-last.invariant.value;
       bound = omega (arith, product, ap weight added, small.weight-add_multiple last.exps last.coef q r, c.loop-last.invariant.bound);
-      p_bound = omega (arith, whole, c.loop-last.invariant.p_bound);
-      within = (small.AllWithin-last MOST_VARIABLES MOST_DEGREE front last (subst (λ l. AllWithin MOST_VARIABLES MOST_DEGREE (polynomial_of l)) c.in-Some.ensures.cases.0 c.loop-last.invariant.within)).0;
+      low = (every-last (are_at_most MOST_DEGREE) front last (subst (λ l. is_low MOST_DEGREE (polynomial_of l) ≡ true) c.in-Some.ensures.cases.0 c.loop-last.invariant.low)).0;
     }

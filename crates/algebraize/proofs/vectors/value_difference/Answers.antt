@@ -1,0 +1,14 @@
+use Rattle.std.proofs.Common.{◌≡◌, ◌≤◌, ◌+◌, ◌*◌, sym, ◌∙◌, ap, subst, arith, rules, refl}
+use Rattle.poly_model.specs.Polynomial.{Polynomial, poly_sum, poly_difference, poly_negative, poly_product}
+use Rattle.poly_model.specs.Standard.{polynomial_of}
+use Rattle.poly_model.specs.declared.limits.TheConstants.{MOST_DEGREE, MOST_SIZE, MOST_TERMS}
+use Rattle.algebraize.specs.Small.{weight, is_low, IsSmall}
+use Rattle.algebraize.proofs.Changes.{if_ok}
+use Rattle.algebraize.proofs.Every.{is_low-more}
+use Rattle.algebraize.proofs.Small as small
+use Rattle.algebraize.proofs.vectors.value_difference.Goals as goal
+
+pub invariant_of-result : goal.invariant_of-result
+invariant_of-result c =
+    subst (IsSmall 2 64) (sym c.in_ok-difference.ensures)
+    (small.small-difference 2 32 32 (polynomial_of c.args.p.now) (polynomial_of c.args.q.now) (omega arith) (omega arith) c.requires.p c.requires.q)
