@@ -8,7 +8,7 @@ use Rattle.poly_model.specs.Domain.{integers, natural_in, integer_in}
 use Rattle.poly_model.specs.Integers.{integers_ring, no_zero_divisors}
 use Rattle.poly_model.specs.Polynomial.{Polynomial, polynomial_operations, monomial_cmp, IsAbove, IsDescending, coefficient_of, sum_over, at_monomial, exponents_sum, with_entry, add_entry, poly_product, poly_scaled, poly_constant}
 use Rattle.poly_model.specs.declared.limits.TheConstants.{MOST_VARIABLES}
-use Rattle.poly_model.proofs.Order.{monomial_cmp-self}
+use Rattle.poly_model.specs.Values.{monomial_cmp-self}
 use Rattle.poly_model.proofs.Sums as sums
 use Rattle.poly_model.proofs.Ordered.{at_monomial-additive, same_coefficients, descending-product, descending-constant}
 use Rattle.algebraize.specs.Equations.{polynomials}

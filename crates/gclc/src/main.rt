@@ -1,7 +1,6 @@
 //! Constructions in a command language: pictures, equations, proofs, and a checker of proofs.
 #![tactic(auto)]
 
-
 use command_line::{Status, exit_code, gclc_run};
 use desk_io::{RealDesk, RealSink};
 use std::process::ExitCode;
