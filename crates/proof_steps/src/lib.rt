@@ -1,0 +1,14 @@
+//! The steps, pieces and trees of a proof as data, and what the rules of elimination, the order of work and a valid tree
+//! are.
+#![tactic(auto)]
+
+mod path;
+mod piece;
+mod problem;
+mod step;
+
+pub use path::Path;
+pub use piece::{ChainStep, LeafStatus, Node, Outcome, Piece, Tree};
+pub use poly_model::Reason;
+pub use problem::Problem;
+pub use step::{Attempt, Step};
