@@ -1,0 +1,3 @@
+pub mod Verdicts
+pub mod Tallies
+pub mod Claims
