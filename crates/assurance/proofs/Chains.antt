@@ -1,6 +1,6 @@
--- A chain that proves the conclusions at a triangular system: they are zero at its zeros.
+-- Where a chain ends as proved at a triangular system, the conclusions are zero at the zeros of the system.
 use Rattle.std.proofs.Common.{◌≡◌, ℕ, ◌+◌, ◌-◌, ◌<◌, ◌≤◌, zero, suc, List, [], ◌∷◌, length, get_or, refl, sym, ◌∙◌, ap, arith, Bool, true, false, ◌&&◌, ◌||◌, not, inl, inr}
-use Rattle.std.specs.Prelude.{◌==◌, Some, None, unwrap_or, nat_lt, nat_le, if◌then◌else◌}
+use Rattle.std.specs.Prelude.{Option, ◌==◌, None, unwrap_or, nat_lt, nat_le, if◌then◌else◌}
 use Rattle.std.specs.List.{list_all}
 use Rattle.std.specs.Ordering.{int_eq}
 use Rattle.std.proofs.lemmas.Bool.{and_parts, and_from, or_cases, eq-eqb, not_from_true, lt-ltb, le-leb, both_ways}
@@ -18,16 +18,18 @@ use Rattle.proof_steps.specs.declared.piece.LeafStatus.{LeafStatus}
 use Rattle.proof_steps.specs.declared.piece.LeafStatus.TheVariants as status
 use Rattle.proof_steps.proofs.Search.{first_from-found, greatest-attained, all-at}
 use Rattle.poly_model.specs.Equality.{same-is}
+use Rattle.poly_model.specs.declared.limits.Reason.{Reason}
 use Rattle.zero_rules.proofs.Lists as lists
 use Rattle.zero_rules.proofs.Rules as rules
 use Rattle.poly_model.proofs.Reductions.{reduction-zeros}
 
--- an equation of a triangular system is no constant, and its initial is known
+-- the initial of each equation of a triangular system is known
 pub triangular-at : (E N : List Polynomial) (f : ℕ) → is_triangular E N ≡ true → f < length E → has_known_initial N (get_or E f []) ≡ true
 triangular-at E N f h below =
     let F = get_or E f [] in
     let a = (and_parts (not (is_constant F)) _ (all-at (λ p. not (is_constant p) && is_settled E N (class_of p)) E f below h)).1 in
-    let b = all-at (λ p. not (class_of p == class_of F) || has_known_initial N p) E f below (and_parts _ (list_all (λ p. not (class_of p == class_of F) || has_known_initial N p) E) a).1 in
+    let test : Polynomial → Bool = λ p. not (class_of p == class_of F) || has_known_initial N p in
+    let b = all-at test E f below (and_parts _ (list_all test E) a).1 in
     elim (or_cases (not (class_of F == class_of F)) _ b) [
       | inl n ↦ absurd (both_ways _ (not_from_true _ (eq-eqb (class_of F) (class_of F) refl)) n)
       | inr k ↦ k
@@ -36,12 +38,16 @@ triangular-at E N f h below =
 has-from : (E : List Polynomial) (i : ℕ) → 1 ≤ i → i < 1 + length E → has E i ≡ true
 has-from E i low high = and_from (nat_lt 0 i) (nat_le i (length E)) (lt-ltb 0 i (omega arith)) (le-leb i (length E) (omega arith))
 
--- the equation of a class that some equation has
+-- where some equation reduces p, there is an equation that is due
 reducer-there : (E : List Polynomial) (p : Polynomial) (x : ℕ) → reducing_class E p ≡ suc x → has E (first_of_class E (suc x)) ≡ true
 reducer-there E p x e =
     let a = greatest-attained (λ f. if reaches p f then class_of f else 0) E x e in
     let class : class_of (get_or E a.at []) ≡ suc x = chosen (reaches p (get_or E a.at [])) (class_of (get_or E a.at [])) a.gives in
-    let found = first_from-found (λ i. class_of (item E i) == suc x) (length E) 1 (suc a.at) (omega arith) (let w = a.within in omega (arith, w)) (eq-eqb (class_of (item E (suc a.at))) (suc x) (ap (λ k. class_of (get_or E k [])) (let q : suc a.at - 1 ≡ a.at = omega arith in q) ∙ class)) in
+    let place : suc a.at - 1 ≡ a.at = omega arith in
+    let passes = eq-eqb (class_of (item E (suc a.at))) (suc x) (ap (λ k. class_of (get_or E k [])) place ∙ class) in
+    let found =
+    first_from-found (λ i. class_of (item E i) == suc x) (length E) 1 (suc a.at) (omega arith) (let w = a.within in omega (arith, w)) passes
+    in
     ap (λ r. has E (unwrap_or r 0)) found.found ∙ has-from E found.at found.low found.high
   where
     chosen : (b : Bool) (c : ℕ) → (if b then c else 0) ≡ suc x → c ≡ suc x
@@ -49,7 +55,7 @@ reducer-there E p x e =
     chosen false c q = absurd (omega (arith, q))
 
 module _ {M : Type 0} {o : Operations M} (L : IsDomain o) where
-  -- what is due tells of the conclusions
+  -- What is due says of the conclusions that wait: they are zero, nothing, or they are where those that are reduced are.
   abbrev Says : List Polynomial → List M → List Polynomial → Due → Type 0
   Says E point ps chain.AllZero = AllZero o ps point
   Says E point ps (chain.Left k p) = Unit {0}
@@ -71,7 +77,8 @@ module _ {M : Type 0} {o : Operations M} (L : IsDomain o) where
       ] refl
 
   pub chain-sound : (E N : List Polynomial) (point : List M) → is_triangular E N ≡ true → IsZero o E N point
-      → (k : ℕ) (ps : List Polynomial) (fuel : ℕ) (cs : List ChainStep) (s : LeafStatus) → chain_fits E k ps fuel cs s ≡ true → is_proved s ≡ true → AllZero o ps point
+      → (k : ℕ) (ps : List Polynomial) (fuel : ℕ) (cs : List ChainStep) (s : LeafStatus) → chain_fits E k ps fuel cs s ≡ true → is_proved s ≡ true
+      → AllZero o ps point
   chain-sound E N point t z k ps fuel [] s h proved = last (due_of E k ps) (says E point k ps) h
     where
       not_proved : (s : LeafStatus) → is_proved s ≡ true → (j : ℕ) (p : Polynomial) → chain.is_remainder j p s ≡ true → ⊥
@@ -79,7 +86,7 @@ module _ {M : Type 0} {o : Operations M} (L : IsDomain o) where
       not_proved (status.Remainder i r) e j p q = cc
       not_proved (status.Unreduced i w f) e j p q = cc
 
-      not_stopped : (s : LeafStatus) → is_proved s ≡ true → (j f : ℕ) (w : Rattle.std.specs.Prelude.Option Rattle.poly_model.specs.declared.limits.Reason.Reason) → chain.is_unreduced j f w s ≡ true → ⊥
+      not_stopped : (s : LeafStatus) → is_proved s ≡ true → (j f : ℕ) (w : Option Reason) → chain.is_unreduced j f w s ≡ true → ⊥
       not_stopped status.Proved e j f w q = cc
       not_stopped (status.Remainder i r) e j f w q = cc
       not_stopped (status.Unreduced i v g) e j f w q = cc
@@ -103,5 +110,6 @@ module _ {M : Type 0} {o : Operations M} (L : IsDomain o) where
           let result = same-is _ _ (and_parts (int_eq c.m (reduction_of p (item E f)).0) _ (and_parts (c.k == j && c.f == f) _ b).1).1 in
           let after = more j rest _ a.1 in
           let below = rules.place-within E f y.1 in
-          let law = reduction-zeros L p (item E f) point (lists.all-get o E (f - 1) point z.0) (rules.known-not_zero L N (item E f) point z.1 (triangular-at E N (f - 1) t below)) in
+          let known = rules.known-not_zero L N (item E f) point z.1 (triangular-at E N (f - 1) t below) in
+          let law = reduction-zeros L p (item E f) point (lists.all-get o E (f - 1) point z.0) known in
           y.0 (law.1 (ap (λ r. value_at o r point) (sym result) ∙ after.0), after.1)

@@ -1,10 +1,8 @@
 pub mod Some
-pub mod Same
-pub mod Follow
+pub mod Paths
 pub mod Cover
 pub mod Chains
-pub mod Paths
+pub mod Generic
 pub mod Claim
 pub mod Passing
 pub mod Telling
-pub mod Tests

@@ -1,7 +1,7 @@
--- A test that the initial, the tail and the reductions within the limits pass on is passed on by steps, chains, pieces and trees.
-use Rattle.std.proofs.Common.{◌≡◌, ℕ, ◌-◌, zero, suc, List, [], ◌∷◌, ◌++◌, map, set, get_or, refl, sym, ◌∙◌, ap, subst, Bool, true, false, ◌&&◌}
-use Rattle.std.specs.Prelude.{Option, Some, None, if◌then◌else◌, nat_lt, length, ◌+◌, ◌==◌}
-use Rattle.std.specs.List.{list_any, list_all, flat_map}
+-- A test of polynomials that initials, tails and reductions pass on is passed on by steps, chains, pieces and trees.
+use Rattle.std.proofs.Common.{◌≡◌, ℕ, ◌-◌, zero, suc, List, [], ◌∷◌, ◌++◌, map, set, get_or, refl, sym, ◌∙◌, ap, subst, Bool, true, ◌&&◌}
+use Rattle.std.specs.Prelude.{Some, None, ◌==◌}
+use Rattle.std.specs.List.{list_all, flat_map}
 use Rattle.std.specs.Ordering.{int_eq}
 use Rattle.std.proofs.lemmas.Bool.{and_parts, and_from}
 use Rattle.std.proofs.lemmas.Option.{same_Some}
@@ -9,14 +9,12 @@ use Rattle.std.proofs.lemmas.List.Folds.{list_all-append}
 use Rattle.poly_model.specs.Polynomial.{Polynomial}
 use Rattle.poly_model.specs.Reduction.{same, primitive_initial, primitive_tail, reduction_of, is_nonzero_constant}
 use Rattle.poly_model.specs.Equality.{same-is}
-use Rattle.poly_model.specs.declared.limits.Reason.{Reason}
-use Rattle.poly_model.specs.declared.limits.Reason.TheVariants as reason
 use Rattle.proof_steps.specs.Numbers.{item, has, replaced, without_place}
 use Rattle.proof_steps.specs.Reasons.{same_reason}
-use Rattle.proof_steps.specs.Rules.{is_valid, is_triangular, is_short, size_of, made, reduction_limit, limit_of, reason_of, stepped}
+use Rattle.proof_steps.specs.Rules.{is_valid, is_triangular, size_of, reason_of, tells_result, stepped}
 use Rattle.proof_steps.specs.Chain as chain
 use Rattle.proof_steps.specs.Chain.{Due, due_of, reducing_class, first_of_class, chain_reason, is_step, is_remainder, status_fits, step_due, chain_fits}
-use Rattle.proof_steps.specs.Trees.{step_fits, after_steps, same_list, lists, lists_none, outcome_fits, children, are_trees}
+use Rattle.proof_steps.specs.Trees.{after_steps, same_list, lists, lists_none, outcome_fits, children}
 use Rattle.proof_steps.specs.declared.piece.Node.{Node}
 use Rattle.proof_steps.specs.declared.piece.Piece.{Piece}
 use Rattle.proof_steps.specs.declared.piece.ChainStep.{ChainStep}
@@ -24,45 +22,18 @@ use Rattle.proof_steps.specs.declared.piece.LeafStatus.{LeafStatus}
 use Rattle.proof_steps.specs.declared.piece.LeafStatus.TheVariants as status
 use Rattle.proof_steps.specs.declared.piece.Outcome.{Outcome}
 use Rattle.proof_steps.specs.declared.piece.Outcome.TheVariants as outcome
-use Rattle.proof_steps.specs.declared.step.Attempt.{Attempt}
 use Rattle.proof_steps.specs.declared.step.Attempt.TheVariants as attempt
 use Rattle.proof_steps.specs.declared.step.Step.{Step}
 use Rattle.proof_steps.specs.declared.step.Step.TheVariants as step
 use Rattle.assurance.specs.Polynomials.{of_step, of_status, of_outcome, of_piece, of_tree}
-use Rattle.assurance.proofs.Same.{same_list-is}
-use Rattle.assurance.proofs.Follow.{Fits, by_first}
+use Rattle.proof_steps.proofs.Following.{same_list-is, step-fits, steps-cons, Fits, AreTrees, by_first}
 
 -- the test is passed on
 pub record Passed (test : Polynomial → Bool) : Type 0 where
   pub none : test [] ≡ true
   pub initial : (f : Polynomial) → test f ≡ true → test (primitive_initial f) ≡ true
   pub tail : (f : Polynomial) → test f ≡ true → test (primitive_tail f) ≡ true
-  pub reduction : (g f : Polynomial) → test g ≡ true → test f ≡ true → reduction_limit g f ≡ None → test (reduction_of g f).1 ≡ true
-
-no_reason : (r : Option Reason) → same_reason r None ≡ true → r ≡ None
-no_reason None e = refl
-no_reason (Some reason.Degree) e = cc
-no_reason (Some reason.Bound) e = cc
-no_reason (Some reason.Terms) e = cc
-no_reason (Some reason.Depth) e = cc
-no_reason (Some reason.Fuel) e = cc
-
--- where nothing stops a rule, no limit does
-no_limit : (version : ℕ) (n : Node) (a : Attempt) → same_reason (reason_of version n a) None ≡ true → limit_of version n a ≡ None
-no_limit version n a e = by (limit_of version n a) refl (no_reason (reason_of version n a) e)
-  where
-    by : (l : Option Reason) → limit_of version n a ≡ l
-        → (elim l as (λ _. Option Reason) [ Some r ↦ Some r | None ↦ if list_any is_short (made version n a) then Some reason.Fuel else None ]) ≡ None → limit_of version n a ≡ None
-    by None q k = q
-    by (Some r) q k = cc
-
-no_chain_limit : (p f : Polynomial) (fuel : ℕ) → same_reason (chain_reason p f fuel) None ≡ true → reduction_limit p f ≡ None
-no_chain_limit p f fuel e = by (reduction_limit p f) refl (no_reason (chain_reason p f fuel) e)
-  where
-    by : (l : Option Reason) → reduction_limit p f ≡ l
-        → (elim l as (λ _. Option Reason) [ Some r ↦ Some r | None ↦ if nat_lt fuel (1 + length (reduction_of p f).1) then Some reason.Fuel else None ]) ≡ None → reduction_limit p f ≡ None
-    by None q k = q
-    by (Some r) q k = cc
+  pub reduction : (g f : Polynomial) → test g ≡ true → test f ≡ true → test (reduction_of g f).1 ≡ true
 
 module _ (test : Polynomial → Bool) (c : Passed test) where
   abbrev pub AllPass : List Polynomial → Type 0
@@ -105,30 +76,26 @@ module _ (test : Polynomial → Bool) (c : Passed test) where
   nodes-both (m ∷ ms) ns a b = (a.0, nodes-both ms ns a.1 b)
 
   -- ---- steps
-  step-passes : (version : ℕ) (n : Node) (s : Step) → step_fits version n s ≡ true → NodePasses n → NodePasses (stepped n s) × AllPass (of_step s)
+  step-passes : (version : ℕ) (n : Node) (s : Step) → tells_result n s ≡ true → NodePasses n → NodePasses (stepped n s) × AllPass (of_step s)
   step-passes version n (step.Drop i) h a = ((without-passes n.eqs (i - 1) a.0, a.1), refl)
   step-passes version n (step.Red g f m r) h a =
-      let fits = and_parts (is_valid version n (attempt.Red g f) && same_reason (reason_of version n (attempt.Red g f)) None) _ h in
-      let limit = no_limit version n (attempt.Red g f) (and_parts (is_valid version n (attempt.Red g f)) _ fits.0).1 in
-      let told = same-is r (reduction_of (item n.eqs g) (item n.eqs f)).1 (and_parts (int_eq m (reduction_of (item n.eqs g) (item n.eqs f)).0) _ fits.1).1 in
-      let result = c.reduction (item n.eqs g) (item n.eqs f) (get-passes n.eqs (g - 1) a.0) (get-passes n.eqs (f - 1) a.0) limit in
-      ((set-passes n.eqs (g - 1) (reduction_of (item n.eqs g) (item n.eqs f)).1 a.0 result, a.1), one r (ap test told ∙ result))
+      let whole = reduction_of (item n.eqs g) (item n.eqs f) in
+      let told = same-is r whole.1 (and_parts (int_eq m whole.0) _ h).1 in
+      let result = c.reduction (item n.eqs g) (item n.eqs f) (get-passes n.eqs (g - 1) a.0) (get-passes n.eqs (f - 1) a.0) in
+      ((set-passes n.eqs (g - 1) whole.1 a.0 result, a.1), one r (ap test told ∙ result))
   step-passes version n (step.Tail f r) h a =
-      let told = same-is r (primitive_tail (item n.eqs f)) (and_parts (is_valid version n (attempt.Tail f) && same_reason (reason_of version n (attempt.Tail f)) None) _ h).1 in
+      let told = same-is r (primitive_tail (item n.eqs f)) h in
       let result = c.tail (item n.eqs f) (get-passes n.eqs (f - 1) a.0) in
       ((set-passes n.eqs (f - 1) (primitive_tail (item n.eqs f)) a.0 result, a.1), one r (ap test told ∙ result))
 
-  steps-pass : (version : ℕ) (n : Node) (steps : List Step) (m : Node) → after_steps version n steps ≡ Some m → NodePasses n → NodePasses m × AllPass (flat_map of_step steps)
+  steps-pass : (version : ℕ) (n : Node) (steps : List Step) (m : Node) → after_steps version n steps ≡ Some m → NodePasses n
+      → NodePasses m × AllPass (flat_map of_step steps)
   steps-pass version n [] m h a = (subst NodePasses (same_Some _ _ h) a, refl)
   steps-pass version n (s ∷ steps) m h a =
-      elim (step_fits version n s) as (λ b. step_fits version n s ≡ b → (elim b as (λ _. Option Node) [ true ↦ after_steps version (stepped n s) steps | false ↦ None ]) ≡ Some m
-      → NodePasses m × AllPass (flat_map of_step (s ∷ steps))) [
-        | true ↦ λ e q.
-            let here = step-passes version n s e a in
-            let rest = steps-pass version (stepped n s) steps m q here.0 in
-            (rest.0, both (of_step s) (flat_map of_step steps) here.1 rest.1)
-        | false ↦ λ e q. cc
-      ] refl h
+      let fits = steps-cons version n s steps m h in
+      let here = step-passes version n s (step-fits version n s fits.0).tells a in
+      let rest = steps-pass version (stepped n s) steps m fits.1 here.0 in
+      (rest.0, both (of_step s) (flat_map of_step steps) here.1 rest.1)
 
   -- ---- chains
   abbrev DuePasses : Due → Type 0
@@ -141,7 +108,8 @@ module _ (test : Polynomial → Bool) (c : Passed test) where
   due-passes E k ([] ∷ ps) h = due-passes E (suc k) ps (and_parts (test []) _ h).1
   due-passes E k ((e ∷ p) ∷ ps) h =
       let a = and_parts (test (e ∷ p)) _ h in
-      elim (reducing_class E (e ∷ p)) as (λ x. DuePasses (elim x [ zero ↦ chain.Left k (e ∷ p) | suc y ↦ chain.Reduce k (first_of_class E (suc y)) (e ∷ p) ps ])) [
+      elim (reducing_class E (e ∷ p))
+      as (λ x. DuePasses (elim x [ zero ↦ chain.Left k (e ∷ p) | suc y ↦ chain.Reduce k (first_of_class E (suc y)) (e ∷ p) ps ])) [
         | zero ↦ a.0
         | suc x ↦ a
       ]
@@ -163,21 +131,23 @@ module _ (test : Polynomial → Bool) (c : Passed test) where
   abbrev of_chain : List ChainStep → LeafStatus → List Polynomial
   of_chain cs s = map (λ (x : ChainStep). x.r) cs ++ of_status s
 
-  chain-passes : (E : List Polynomial) → AllPass E → (k : ℕ) (ps : List Polynomial) (fuel : ℕ) (cs : List ChainStep) (s : LeafStatus) → chain_fits E k ps fuel cs s ≡ true → AllPass ps
-      → AllPass (of_chain cs s)
+  chain-passes : (E : List Polynomial) → AllPass E → (k : ℕ) (ps : List Polynomial) (fuel : ℕ) (cs : List ChainStep) (s : LeafStatus)
+      → chain_fits E k ps fuel cs s ≡ true → AllPass ps → AllPass (of_chain cs s)
   chain-passes E e k ps fuel [] s h a = status-passes E fuel (due_of E k ps) s h (due-passes E k ps a)
   chain-passes E e k ps fuel (x ∷ cs) s h a =
       at (due_of E k ps) (due-passes E k ps a) h (λ j rest left g b. chain-passes E e j (x.r ∷ rest) left cs s g b)
     where
       at : (d : Due) → DuePasses d → step_due E fuel x (λ j rest left. chain_fits E j rest left cs s) d ≡ true
-          → ((j : ℕ) (rest : List Polynomial) (left : ℕ) → chain_fits E j (x.r ∷ rest) left cs s ≡ true → AllPass (x.r ∷ rest) → AllPass (of_chain cs s)) → AllPass (of_chain (x ∷ cs) s)
+          → ((j : ℕ) (rest : List Polynomial) (left : ℕ) → chain_fits E j (x.r ∷ rest) left cs s ≡ true → AllPass (x.r ∷ rest) → AllPass (of_chain cs s))
+          → AllPass (of_chain (x ∷ cs) s)
       at chain.AllZero d q more = cc
       at (chain.Left j p) d q more = cc
       at (chain.Reduce j f p rest) d q more =
+          let whole = reduction_of p (item E f) in
           let fits = and_parts (is_step E j f p x && same_reason (chain_reason p (item E f) fuel) None) _ q in
-          let here = and_parts (is_step E j f p x) _ fits.0 in
-          let told = same-is x.r (reduction_of p (item E f)).1 (and_parts (int_eq x.m (reduction_of p (item E f)).0) _ (and_parts (x.k == j && x.f == f) _ here.0).1).1 in
-          let result = ap test told ∙ c.reduction p (item E f) d.0 (get-passes E (f - 1) e) (no_chain_limit p (item E f) fuel here.1) in
+          let here = (and_parts (is_step E j f p x) _ fits.0).0 in
+          let told = same-is x.r whole.1 (and_parts (int_eq x.m whole.0) _ (and_parts (x.k == j && x.f == f) _ here).1).1 in
+          let result = ap test told ∙ c.reduction p (item E f) d.0 (get-passes E (f - 1) e) in
           and_from (test x.r) _ result (more j rest _ fits.1 (and_from (test x.r) (list_all test rest) result d.1))
 
   -- ---- pieces
@@ -198,7 +168,8 @@ module _ (test : Polynomial → Bool) (c : Passed test) where
         ap (list_all test) (same_list-is p.nes m.nes a.1) ∙ n.1,
       )
 
-  outcome-passes : (version : ℕ) (cons : List Polynomial) → AllPass cons → (m : Node) (p : Piece) (x : Outcome) → outcome_fits version cons m p x ≡ true → NodePasses m → OutcomePasses version m p x
+  outcome-passes : (version : ℕ) (cons : List Polynomial) → AllPass cons → (m : Node) (p : Piece) (x : Outcome) → outcome_fits version cons m p x ≡ true
+      → NodePasses m → OutcomePasses version m p x
   outcome-passes version cons k m p (outcome.Split f initial) h n =
       let F = item m.eqs f in
       let J = primitive_initial F in
@@ -224,7 +195,8 @@ module _ (test : Polynomial → Bool) (c : Passed test) where
   outcome-passes version cons k m p (outcome.Open why what) h n =
       (node-listed p m (and_parts (is_valid version m what && same_reason (reason_of version m what) (Some why)) _ h).1 n, refl, tt)
 
-  piece-passes : (version : ℕ) (cons : List Polynomial) → AllPass cons → (n : Node) (p : Piece) (ms : List Node) → Fits version cons n p ms → NodePasses n → AllPass (of_piece p) × NodesPass ms
+  piece-passes : (version : ℕ) (cons : List Polynomial) → AllPass cons → (n : Node) (p : Piece) (ms : List Node) → Fits version cons n p ms → NodePasses n
+      → AllPass (of_piece p) × NodesPass ms
   piece-passes version cons k n p ms f a =
       let steps = steps-pass version n p.steps f.end f.steps a in
       let end = outcome-passes version cons k f.end p p.outcome f.outcome steps.0 in (
@@ -233,7 +205,8 @@ module _ (test : Polynomial → Bool) (c : Passed test) where
         subst NodesPass f.nodes end.2,
       )
 
-  pub trees-pass : (version : ℕ) (cons : List Polynomial) → AllPass cons → (ns : List Node) (ps : List Piece) → are_trees version cons ns ps ≡ true → NodesPass ns → AllPass (of_tree ps)
+  pub trees-pass : (version : ℕ) (cons : List Polynomial) → AllPass cons → (ns : List Node) (ps : List Piece) → AreTrees version cons ns ps → NodesPass ns
+      → AllPass (of_tree ps)
   trees-pass version cons k ns [] h a = refl
   trees-pass version cons k [] (p ∷ ps) h a = cc
   trees-pass version cons k (n ∷ ns) (p ∷ ps) h a =

@@ -16,7 +16,8 @@ minus-append [] r h = cc
 minus-append (true ∷ a) r h = let m = minus-append a r h in (m.0, ap (λ l. true ∷ l) m.1)
 minus-append (false ∷ a) r h = (refl, refl)
 
-pub plus-append : (j : ℕ) (r : List Bool) → (has_minus (replicate j true ++ r) ≡ has_minus r) × (plus_part (replicate j true ++ r) ≡ replicate j true ++ plus_part r)
+pub plus-append : (j : ℕ) (r : List Bool)
+    → (has_minus (replicate j true ++ r) ≡ has_minus r) × (plus_part (replicate j true ++ r) ≡ replicate j true ++ plus_part r)
 plus-append zero r = (refl, refl)
 plus-append (suc j) r = let m = plus-append j r in (m.0, ap (λ l. true ∷ l) m.1)
 
@@ -44,7 +45,7 @@ all_plus (suc j) = all_plus j
 pub farther : (j k : ℕ) → j ≤ k → (j ≡ k → ⊥) → suc j ≤ k
 farther j k low n = grind arith
 
--- the nodes are below a `-` that stands before the j-th letter
+-- each node has a `-` among its first j letters
 abbrev pub Below : ℕ → List Node → Type 0
 Below j [] = Unit {0}
 Below j (n ∷ ns) = (has_minus n.path ≡ true) × (lead n.path < j) × Below j ns
@@ -56,7 +57,8 @@ below-more j (n ∷ ns) b = (b.0, (let a = b.1 in omega (arith, a)), below-more 
 abbrev pub Extends : Piece → Node → Type 0
 Extends p n = (rest : List Bool) × (p.path ≡ n.path ++ rest)
 
-pub below-some : (j : ℕ) (ns : List Node) (P : Node → Type 0) (p : Piece) → Below j ns → SomeOf (λ n. P n × Extends p n) ns → (has_minus p.path ≡ true) × (lead p.path < j)
+pub below-some : (j : ℕ) (ns : List Node) (P : Node → Type 0) (p : Piece) → Below j ns → SomeOf (λ n. P n × Extends p n) ns
+    → (has_minus p.path ≡ true) × (lead p.path < j)
 below-some j [] P p b s = absurd s
 below-some j (n ∷ ns) P p b (inl h) =
     let m = minus-append n.path h.1.0 b.0 in
@@ -64,7 +66,8 @@ below-some j (n ∷ ns) P p b (inl h) =
 below-some j (n ∷ ns) P p b (inr s) = below-some j ns P p b.2 s
 
 -- a child's path is the node's with a letter
-pub child-paths : (version : ℕ) (m : Node) (x : Outcome) (P : Node → Type 0) → SomeOf P (children version m x) → SomeOf (λ c. P c × ((b : Bool) × (c.path ≡ m.path ++ b ∷ []))) (children version m x)
+pub child-paths : (version : ℕ) (m : Node) (x : Outcome) (P : Node → Type 0) → SomeOf P (children version m x)
+    → SomeOf (λ c. P c × ((b : Bool) × (c.path ≡ m.path ++ b ∷ []))) (children version m x)
 child-paths version m (outcome.Split f initial) P (inl p) = inl (p, (true, refl))
 child-paths version m (outcome.Split f initial) P (inr (inl p)) = inr (inl (p, (false, refl)))
 child-paths version m (outcome.Split f initial) P (inr (inr w)) = absurd w

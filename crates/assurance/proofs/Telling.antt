@@ -1,11 +1,12 @@
--- What all polynomials of a tree pass, those of its verdict pass.
-use Rattle.std.proofs.Common.{◌≡◌, List, [], ◌∷◌, ◌++◌, map, refl, sym, ◌∙◌, ap, Bool, true, false, cond, ◌&&◌, not}
+-- What all polynomials of a tree pass, those of its verdict pass; and only the variables of a problem occur in its trees.
+use Rattle.std.proofs.Common.{◌≡◌, ℕ, List, [], ◌∷◌, ◌++◌, map, refl, sym, ◌∙◌, ap, Bool, true, false, cond, ◌&&◌, not}
 use Rattle.std.specs.Prelude.{Some, None, filter, find, nat_le, unwrap_or}
 use Rattle.std.specs.List.{list_all, flat_map}
 use Rattle.std.proofs.lemmas.Bool.{and_parts, and_from}
 use Rattle.std.proofs.lemmas.Option.{same_Some}
-use Rattle.poly_model.specs.Polynomial.{Polynomial}
-use Rattle.poly_model.specs.Reduction.{same}
+use Rattle.poly_model.specs.Polynomial.{Polynomial, is_over}
+use Rattle.poly_model.specs.Reduction.{same, initial_of, tail_of, main_place, main_degree}
+use Rattle.poly_model.proofs.Over.{over-initial, over-without, over-primitive_part, over-reduction}
 use Rattle.proof_steps.specs.Rules.{size_of}
 use Rattle.proof_steps.specs.Trees.{same_path, root_of}
 use Rattle.proof_steps.specs.declared.piece.Piece.{Piece}
@@ -17,7 +18,7 @@ use Rattle.verdicts.specs.declared.verdict.Verdict.{Verdict}
 use Rattle.verdicts.specs.declared.verdict.Verdict.TheVariants as verdict
 use Rattle.verdicts.specs.Verdicts.{has_minus, plus_part, gain_of, gain_in, gain_at, generic_leaf, is_unproved, without_repeats, conditions, under, verdict_by, verdict_of}
 use Rattle.assurance.specs.Polynomials.{of_step, of_outcome, of_piece, of_tree, of_verdict}
-use Rattle.assurance.specs.Assured.{PassesOn}
+use Rattle.assurance.specs.Assured.{TreesKeepVariables}
 use Rattle.assurance.proofs.Passing as passing
 use Rattle.assurance.proofs.Passing.{Passed}
 
@@ -80,7 +81,9 @@ module _ (test : Polynomial → Bool) (c : Passed test) where
 
   pub verdict-passes : (ps : List Piece) → All (of_tree ps) → All (of_verdict (verdict_of ps))
   verdict-passes ps h =
-      elim (generic_leaf ps) as (λ r. generic_leaf ps ≡ r → All (of_verdict (elim r as (λ _. Verdict) [ None ↦ verdict.Degenerate [] | Some p ↦ verdict_by (conditions ps) p p.outcome ]))) [
+      elim (generic_leaf ps)
+      as (λ r. generic_leaf ps ≡ r
+      → All (of_verdict (elim r as (λ _. Verdict) [ None ↦ verdict.Degenerate [] | Some p ↦ verdict_by (conditions ps) p p.outcome ]))) [
         | None ↦ λ e. refl
         | Some g ↦ λ e. by g g.outcome (found _ ps g h e)
       ] refl
@@ -94,8 +97,16 @@ module _ (test : Polynomial → Bool) (c : Passed test) where
       by g (outcome.System cs (status.Remainder j r)) k = (passing.parts test c (map (λ (x : ChainStep). x.r) cs) (r ∷ []) k).1
       by g (outcome.System cs (status.Unreduced j why f)) k = refl
 
-  pub passes-on : PassesOn test
-  passes-on version problem fuel ps hyps cons h =
-      let forest = (and_parts (nat_le (size_of (root_of problem fuel)) fuel) _ h).1 in
-      let tree = passing.trees-pass test c version problem.cons cons (root_of problem fuel ∷ []) ps forest ((hyps, refl), tt) in
-      (tree, verdict-passes ps tree)
+over-passed : (n : ℕ) → Passed (is_over n)
+over-passed n = record {
+  none = refl;
+  initial = λ f h. over-primitive_part n (initial_of f) ∙ over-initial n f h;
+  tail = λ f h. over-primitive_part n (tail_of f) ∙ over-without n (main_place f) (main_degree f) f h;
+  reduction = λ g f a b. over-reduction n g f a b;
+}
+
+pub keeps_variables : TreesKeepVariables
+keeps_variables version n problem fuel ps hyps cons h =
+    let trees = (and_parts (nat_le (size_of (root_of problem fuel)) fuel) _ h).1 in
+    let tree = passing.trees-pass (is_over n) (over-passed n) version problem.cons cons (root_of problem fuel ∷ []) ps trees ((hyps, refl), tt) in
+    (tree, verdict-passes (is_over n) (over-passed n) ps tree)

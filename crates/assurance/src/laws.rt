@@ -1,4 +1,4 @@
-ghost use Rattle.assurance.specs.Assured.{TreesCover, VerdictsHold, TreesKeepVariables, TreesKeepLimits};
+ghost use Rattle.assurance.specs.Assured.{TreesCover, VerdictsHold, TreesKeepVariables};
 
 use poly_model::Domain;
 
@@ -17,9 +17,4 @@ pub fn verdicts_hold<D: Domain>(_domain: &D)
 /// Where only the first `n` variables occur in a problem, only they occur in its valid trees and their verdicts.
 pub fn trees_keep_to_their_variables()
     ensures { TreesKeepVariables }
-{}
-
-/// Where the polynomials of a problem are within the limits, so are those of its valid trees and of their verdicts.
-pub fn trees_stay_within_the_limits()
-    ensures { TreesKeepLimits }
 {}

@@ -3,6 +3,4 @@
 
 mod laws;
 
-pub use laws::{
-    trees_cover, trees_keep_to_their_variables, trees_stay_within_the_limits, verdicts_hold,
-};
+pub use laws::{trees_cover, trees_keep_to_their_variables, verdicts_hold};
