@@ -1,0 +1,10 @@
+pub mod Some
+pub mod Same
+pub mod Follow
+pub mod Cover
+pub mod Chains
+pub mod Paths
+pub mod Claim
+pub mod Passing
+pub mod Telling
+pub mod Tests
