@@ -2,9 +2,11 @@
 #![tactic(auto)]
 
 mod limits;
+mod laws;
 mod line;
 mod log;
 
 pub use limits::{MOST_INDEX, MOST_PROOFS, VERSION};
+pub use laws::lines_are_unique;
 pub use line::{LineWord, LogLine};
 pub use log::{Log, Proof};
