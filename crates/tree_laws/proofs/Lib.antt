@@ -1,0 +1,4 @@
+-- what is due
+pub mod Due
+-- the expansion of a node
+pub mod Unfold
