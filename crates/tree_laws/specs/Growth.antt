@@ -11,3 +11,7 @@ use Rattle.proof_steps.specs.declared.problem.Problem.{Problem}
 abbrev pub TreesUnfold : Type 0
 TreesUnfold = (version : ℕ) (cons : List Polynomial) (n : Node) → size_of n ≤ n.fuel
     → tree_at version cons n ≡ (expansion_of version cons n).0 ∷ flat_map (λ m. tree_at version cons m) (expansion_of version cons n).1
+
+-- The tree of a problem whose root has fuel for its size is valid.
+abbrev pub TreesAreValid : Type 0
+TreesAreValid = (version : ℕ) (problem : Problem) (fuel : ℕ) → size_of (root_of problem fuel) ≤ fuel → IsTrue (is_tree_of version problem fuel (tree_of version problem fuel))

@@ -3,4 +3,4 @@
 
 mod laws;
 
-pub use laws::{what_is_due_is_valid};
+pub use laws::{trees_of_problems_are_valid, trees_unfold, what_is_due_is_valid};
