@@ -195,29 +195,40 @@ pub record Chosen (n : Node) (x : ℕ) : Type 0 where
   pub least : list_all (λ q. not (class_of q == suc x && is_less q (item n.eqs (least n.eqs (suc x))))) n.eqs ≡ true
   pub unsettled : is_settled n.eqs n.nes (suc x) ≡ false
 
+least-from : (E : List Polynomial) (x i : ℕ) → class_of (item E i) ≡ x → list_all (λ q. not (class_of q == x && is_less q (item E i))) E ≡ true → is_least E x i ≡ true
+least-from E x i class least = and_from (class_of (item E i) == x) (list_all (λ q. not (class_of q == x && is_less q (item E i))) E) (eq-eqb (class_of (item E i)) x class) least
+
+least-parts : (E : List Polynomial) (x i : ℕ) → is_least E x i ≡ true → (class_of (item E i) ≡ x) × (list_all (λ q. not (class_of q == x && is_less q (item E i))) E ≡ true)
+least-parts E x i h =
+    let a = and_parts (class_of (item E i) == x) (list_all (λ q. not (class_of q == x && is_less q (item E i))) E) h in
+    (eqb-true (class_of (item E i)) x a.0, a.1)
+
 pub chosen : (n : Node) (x : ℕ) → unsettled_class n ≡ suc x → Chosen n x
 chosen n x e =
-    let E = n.eqs in
-    let a = greatest-attained (λ p. if is_settled n.eqs n.nes (class_of p) then 0 else class_of p) E x e in
-    let P = get_or E a.at [] in
-    let t = told (is_settled n.eqs n.nes (class_of P)) (class_of P) a.gives in
-    let l = least-there (suc x) E a.at a.within t.1 in
-    let passes : is_least E (suc x) (suc l.at) ≡ true =
-    ap (λ k. class_of k == suc x && list_all (λ q. not (class_of q == suc x && is_less q k)) E) (item-next E l.at) ∙ and_from _ _ (eq-eqb _ _ l.class) l.least
-    in
-    let f = first_from-found (is_least E (suc x)) (length E) 1 (suc l.at) (omega arith) (let w = l.within in omega (arith, w)) passes in
-    let number : least E (suc x) ≡ f.at = ap (λ r. unwrap_or r 0) f.found in
-    let parts = and_parts (class_of (item E f.at) == suc x) _ f.passes in
-    record {
-      inside = ap (has E) number ∙ has-from E f.at f.low f.high;
-      class = ap (λ k. class_of (item E k)) number ∙ eqb-true _ _ parts.0;
-      least = ap (λ k. list_all (λ q. not (class_of q == suc x && is_less q (item E k))) E) number ∙ parts.1;
-      unsettled = ap (is_settled n.eqs n.nes) (sym t.1) ∙ t.0;
-    }
+    let a = greatest-attained (λ p. if is_settled n.eqs n.nes (class_of p) then 0 else class_of p) n.eqs x e in
+    found a.at a.within (told (is_settled n.eqs n.nes (class_of (get_or n.eqs a.at []))) (class_of (get_or n.eqs a.at [])) a.gives)
   where
     told : (b : Bool) (c : ℕ) → (if b then 0 else c) ≡ suc x → (b ≡ false) × (c ≡ suc x)
     told true c q = absurd (omega (arith, q))
     told false c q = (refl, q)
+
+    there : (m : Least (suc x) n.eqs) → is_least n.eqs (suc x) (suc m.at) ≡ true
+    there m =
+        least-from n.eqs (suc x) (suc m.at) (ap class_of (item-next n.eqs m.at) ∙ m.class)
+        (ap (λ k. list_all (λ q. not (class_of q == suc x && is_less q k)) n.eqs) (item-next n.eqs m.at) ∙ m.least)
+
+    found : (i : ℕ) → i < length n.eqs → (is_settled n.eqs n.nes (class_of (get_or n.eqs i [])) ≡ false) × (class_of (get_or n.eqs i []) ≡ suc x) → Chosen n x
+    found i within t =
+        let m = least-there (suc x) n.eqs i within t.1 in
+        let f = first_from-found (is_least n.eqs (suc x)) (length n.eqs) 1 (suc m.at) (omega arith) (let w = m.within in omega (arith, w)) (there m) in
+        let number : least n.eqs (suc x) ≡ f.at = ap (λ r. unwrap_or r 0) f.found in
+        let parts = least-parts n.eqs (suc x) f.at f.passes in
+        record {
+          inside = ap (has n.eqs) number ∙ has-from n.eqs f.at f.low f.high;
+          class = ap (λ k. class_of (item n.eqs k)) number ∙ parts.0;
+          least = ap (λ k. list_all (λ q. not (class_of q == suc x && is_less q (item n.eqs k))) n.eqs) number ∙ parts.1;
+          unsettled = ap (is_settled n.eqs n.nes) (sym t.1) ∙ t.0;
+        }
 
 pub nonconstant : (p : Polynomial) (x : ℕ) → class_of p ≡ suc x → not (is_constant p) ≡ true
 nonconstant p x c = not_from_false _ (ne_eqb (class_of p) 0 (λ e. omega (arith, c, e)))

@@ -33,27 +33,20 @@ use Rattle.poly_model.specs.Equality.{same-is, same-self}
 use Rattle.tree_laws.specs.Due.{IsRight}
 use Rattle.tree_laws.proofs.Due.{next-right}
 use Rattle.tree_laws.proofs.Unfold.{size-some, not-short, holds-size, one-short}
+use Rattle.tree_laws.specs.Costs.{total_fuel, HaveLess, WorkFollows}
 use Rattle.tree_laws.specs.Growth.{TreesAreValid, TreesUnfold}
 
 use Rattle.tree_laws.proofs.Fitting.{same_reason-is, int_eq-self, chain-fits, follow-step, follow-bare, follow-listing, listed-self}
 
 -- ---- fuel
-abbrev pub AllFit : ℕ → List Node → Type 0
-AllFit k [] = Unit {0}
-AllFit k (m ∷ ms) = (m.fuel < k) × (size_of m ≤ m.fuel) × AllFit k ms
-
-abbrev pub total_fuel : List Node → ℕ
-total_fuel [] = 0
-total_fuel (m ∷ ms) = m.fuel + total_fuel ms
-
-pub fit-more : (j k : ℕ) (ms : List Node) → j ≤ k → AllFit j ms → AllFit k ms
+pub fit-more : (j k : ℕ) (ms : List Node) → j ≤ k → HaveLess j ms → HaveLess k ms
 fit-more j k [] h a = tt
 fit-more j k (m ∷ ms) h a = ((let b = a.0 in omega (arith, b, h)), a.1, fit-more j k ms h a.2)
 
 -- what the expansion of a node is
 pub record Worked (version : ℕ) (cons : List Polynomial) (n : Node) (e : Piece × List Node) : Type 0 where
   pub follows : follow version cons n e.0 ≡ Some e.1
-  pub smaller : AllFit n.fuel e.1
+  pub smaller : HaveLess n.fuel e.1
   pub total : total_fuel e.1 < n.fuel
 
 stepping : (version : ℕ) (cons : List Polynomial) (n : Node) (s : Step) (e : Piece × List Node) → is_valid version n (attempt_of s) ≡ true → reason_of version n (attempt_of s) ≡ None → tells_result n s ≡ true
@@ -120,3 +113,6 @@ worked (suc k) version cons n low enough = by (next version n) (next-right versi
           total = (let s = size-some n in omega (arith, s, enough));
         }
     by (work.Try a) r more = tried more a r (reason_of version n a) refl
+
+pub work-follows : WorkFollows
+work-follows version cons n enough = let w = worked n.fuel version cons n (omega arith) enough in (w.follows, w.smaller)
