@@ -10,3 +10,7 @@ pub mod Worked
 pub mod Growth
 -- what the fuel pays for
 pub mod Paid
+-- worked trees
+mod RowWords
+pub mod SmallTrees
+pub mod TwoLines
