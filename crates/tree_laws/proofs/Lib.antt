@@ -10,6 +10,10 @@ pub mod Worked
 pub mod Growth
 -- what the fuel pays for
 pub mod Paid
+-- what is within the limits
+pub mod Polynomials
+pub mod Chains
+pub mod Ranged
 -- worked trees
 mod RowWords
 pub mod SmallTrees

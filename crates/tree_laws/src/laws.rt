@@ -4,6 +4,7 @@ ghost use Rattle.proof_steps.specs.declared.piece.Node.{Node};
 ghost use Rattle.tree_laws.specs.Due.{IsRight};
 ghost use Rattle.tree_laws.specs.Costs.{FuelPays, ReasonsAreRight, TreesArePaid, WorkFollows};
 ghost use Rattle.tree_laws.specs.Growth.{TreesAreValid, TreesUnfold};
+ghost use Rattle.tree_laws.specs.Ranges.{TreesAreWithinLimits};
 
 /// What is due at a node is right there: the rule that is tried is valid, the equation that closes the node is a number
 /// other than 0, the equation that clashes equals the condition, and where nothing is left to do the system is triangular.
@@ -37,4 +38,10 @@ pub fn fuel_pays_for_trees()
 /// Why a rule is stopped: by the limit that it meets, else by want of fuel for one of the nodes that it makes.
 pub fn reasons_are_right()
     ensures { ReasonsAreRight }
+{}
+
+/// In a valid tree of a problem within the limits, whoever made it, each path, number, multiplier and polynomial is
+/// within them too, and no other variables occur: what a log needs to write the tree.
+pub fn trees_are_within_limits()
+    ensures { TreesAreWithinLimits }
 {}
