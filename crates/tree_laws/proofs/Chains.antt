@@ -1,7 +1,7 @@
 -- What is due of the conclusions: its number, and the equation that reduces.
-use Rattle.std.proofs.Common.{◌≡◌, ℕ, ◌+◌, ◌-◌, ◌<◌, ◌≤◌, zero, suc, List, [], ◌∷◌, length, get_or, refl, ◌∙◌, ap, arith, Bool, true, false}
+use Rattle.std.proofs.Common.{◌≡◌, ℕ, ◌+◌, ◌<◌, ◌≤◌, zero, suc, List, [], ◌∷◌, length, get_or, refl, ◌∙◌, ap, arith, Bool, true, false}
 use Rattle.std.specs.Prelude.{◌==◌, unwrap_or, if◌then◌else◌, All}
-use Rattle.std.proofs.lemmas.Bool.{eq-eqb}
+use Rattle.std.proofs.lemmas.Bool.{eq-eqb, eqb-true}
 use Rattle.poly_model.specs.Polynomial.{Polynomial}
 use Rattle.poly_model.specs.Reduction.{class_of, reaches}
 use Rattle.proof_steps.specs.Numbers.{item, has}
@@ -27,7 +27,7 @@ reducer-there E p x e =
     let number : first_of_class E (suc x) ≡ found.at = ap (λ r. unwrap_or r 0) found.found in
     record {
       inside = ap (has E) number ∙ has-from E found.at found.low found.high;
-      class = ap (λ k. class_of (item E k)) number ∙ Rattle.std.proofs.lemmas.Bool.eqb-true (class_of (item E found.at)) (suc x) found.passes;
+      class = ap (λ k. class_of (item E k)) number ∙ eqb-true (class_of (item E found.at)) (suc x) found.passes;
     }
   where
     chosen : (b : Bool) (c : ℕ) → (if b then c else 0) ≡ suc x → c ≡ suc x

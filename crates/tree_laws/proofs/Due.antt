@@ -7,7 +7,7 @@ use Rattle.std.proofs.lemmas.Bool.{and_parts, and_from, and_cases, or_cases, or_
 use Rattle.std.proofs.lemmas.List.Sums.{sum_by-cons}
 use Rattle.poly_model.specs.Polynomial.{Polynomial}
 use Rattle.proof_steps.specs.Numbers.{item, has, first}
-use Rattle.poly_model.specs.Reduction.{same, has_polynomial, class_of, number_of, is_constant, is_zero, is_nonzero_constant, main_place, main_degree, degree_at, reaches, primitive_initial}
+use Rattle.poly_model.specs.Reduction.{same, has_polynomial, class_of, number_of, is_constant, is_zero, is_nonzero_constant, main_place, main_degree, degree_at, primitive_initial}
 use Rattle.proof_steps.specs.Rules.{has_known_initial, is_settled, is_triangular, is_valid}
 use Rattle.proof_steps.specs.Work as work
 use Rattle.proof_steps.specs.Work.{Next, drop_due, close_due, clash_due, class_due, number_in, unsettled_class, is_less, is_least, least, other, work_on, next}

@@ -1,9 +1,9 @@
 -- The fuel of the nodes pays for the pieces of their trees, and the reasons are the right ones.
-use Rattle.std.proofs.Common.{◌≡◌, ℕ, ◌+◌, ◌-◌, ◌<◌, ◌≤◌, List, [], ◌∷◌, ◌++◌, length, refl, sym, ◌∙◌, ap, subst, arith, Bool, true, false, ◌&&◌}
+use Rattle.std.proofs.Common.{◌≡◌, ℕ, ◌+◌, ◌-◌, ◌≤◌, List, [], ◌∷◌, ◌++◌, length, refl, sym, ◌∙◌, ap, subst, arith, Bool, true, false, ◌&&◌}
 use Rattle.std.specs.Prelude.{Option, Some, None, nat_lt, nat_le, ◌==◌, if◌then◌else◌}
 use Rattle.std.specs.List.{list_any}
 use Rattle.std.specs.Ordering.{int_eq}
-use Rattle.std.proofs.lemmas.Bool.{and_parts, or_parts, or_from, leb-true, ltb-false, lt-ltb}
+use Rattle.std.proofs.lemmas.Bool.{and_parts, or_parts, or_from, leb-true, ltb-true}
 use Rattle.std.proofs.lemmas.Option.{same_Some}
 use Rattle.poly_model.specs.Polynomial.{Polynomial}
 use Rattle.poly_model.specs.Equality.{same-is}
@@ -15,19 +15,17 @@ use Rattle.proof_steps.specs.Reasons.{same_reason}
 use Rattle.proof_steps.specs.Rules.{is_valid, is_triangular, is_short, limit_of, reason_of, size_of, sizes, made, stepped, dropped, reduced, cut, plus_child, minus_child}
 use Rattle.proof_steps.specs.Chain as chain
 use Rattle.proof_steps.specs.Chain.{Due, due_of, chain_reason, is_step, step_due, chain_fits}
-use Rattle.proof_steps.specs.Trees.{step_fits, after_steps, same_list, lists, lists_none, outcome_fits, children, follow, are_trees, root_of, is_tree_of}
+use Rattle.proof_steps.specs.Trees.{step_fits, after_steps, same_list, lists, lists_none, outcome_fits, children, are_trees, root_of}
 use Rattle.proof_steps.specs.declared.piece.ChainStep.{ChainStep}
 use Rattle.proof_steps.specs.declared.piece.LeafStatus.{LeafStatus}
 use Rattle.proof_steps.specs.declared.piece.Node.{Node}
 use Rattle.proof_steps.specs.declared.piece.Outcome.{Outcome}
 use Rattle.proof_steps.specs.declared.piece.Outcome.TheVariants as outcome
 use Rattle.proof_steps.specs.declared.piece.Piece.{Piece}
-use Rattle.proof_steps.specs.declared.problem.Problem.{Problem}
-use Rattle.proof_steps.specs.declared.step.Attempt.{Attempt}
 use Rattle.proof_steps.specs.declared.step.Attempt.TheVariants as attempt
 use Rattle.proof_steps.specs.declared.step.Step.{Step}
 use Rattle.proof_steps.specs.declared.step.Step.TheVariants as step
-use Rattle.tree_laws.specs.Costs.{step_cost, steps_cost, chain_cost, listed_cost, outcome_cost, piece_cost, pieces_cost, total_fuel, HaveFuel, FuelPays, TreesArePaid, ReasonsAreRight}
+use Rattle.tree_laws.specs.Costs.{step_cost, steps_cost, chain_cost, listed_cost, outcome_cost, pieces_cost, total_fuel, HaveFuel, FuelPays, TreesArePaid, ReasonsAreRight}
 use Rattle.tree_laws.proofs.Unfold.{size-some, not-short, holds-size, one-short}
 use Rattle.tree_laws.proofs.Fitting.{reason-fuel}
 use Rattle.tree_laws.proofs.Following.{same_list-is, fits, none-reason, step-fits, steps-cons, first-of}
@@ -163,11 +161,26 @@ trees-paid version cons (p ∷ ps) (n ∷ ns) a h =
     let x = b.0 in
     omega (arith, x, m, k)
 
+-- each piece costs something
+some-cost : (p : Piece) (x : Outcome) → 1 ≤ outcome_cost p x
+some-cost p (outcome.Split f initial) = omega arith
+some-cost p (outcome.Close i) = omega arith
+some-cost p (outcome.Clash i j) = omega arith
+some-cost p (outcome.System chain status) = omega arith
+some-cost p (outcome.Open reason what) = omega arith
+
+few-pieces : (ps : List Piece) → length ps ≤ pieces_cost ps
+few-pieces [] = omega arith
+few-pieces (p ∷ ps) =
+    let some = some-cost p p.outcome in
+    let more = few-pieces ps in
+    omega (arith, some, more)
+
 pub trees-are-paid : TreesArePaid
 trees-are-paid version problem fuel ps h =
     let a = and_parts (nat_le (size_of (root_of problem fuel)) fuel) _ h in
     let m = trees-paid version problem.cons ps (root_of problem fuel ∷ []) (leb-true (size_of (root_of problem fuel)) fuel a.0, tt) a.1 in
-    omega (arith, m)
+    (few-pieces ps, omega (arith, m))
 
 -- ---- reasons
 have-fuel : (ms : List Node) → list_any is_short ms ≡ false → HaveFuel ms
@@ -180,7 +193,7 @@ not-any (m ∷ ms) h = or_from (is_short m) (list_any is_short ms) (long (nat_lt
   where
     long : (b : Bool) → nat_lt m.fuel (size_of m) ≡ b → b ≡ false
     long false e = refl
-    long true e = let below = Rattle.std.proofs.lemmas.Bool.ltb-true m.fuel (size_of m) e in let enough = h.0 in absurd (omega (arith, below, enough))
+    long true e = let below = ltb-true m.fuel (size_of m) e in let enough = h.0 in absurd (omega (arith, below, enough))
 
 abbrev reason_by : Option Reason → Bool → Option Reason
 reason_by limit short = elim limit [ Some r ↦ Some r | None ↦ if short then Some Fuel else None ]

@@ -1,13 +1,12 @@
 -- What the rules make of polynomials within the limits is within them, over the same variables, and so are multipliers.
-use Rattle.std.proofs.Common.{◌≡◌, ◌≢◌, ℕ, ◌+◌, ◌-◌, ◌<◌, ◌≤◌, zero, suc, List, [], ◌∷◌, ◌++◌, length, get_or, set, refl, sym, ◌∙◌, ap, subst, arith, Bool, true, false, ◌&&◌}
-use Rattle.std.specs.Prelude.{ℤ, pos, negsuc, neg_ℤ, unsigned_abs, Option, Some, None, Result, Ok, Err, nat_le, nat_lt, All, if◌then◌else◌}
+use Rattle.std.proofs.Common.{◌≡◌, ◌≢◌, ℕ, ◌+◌, ◌-◌, ◌<◌, zero, suc, List, [], ◌∷◌, ◌++◌, length, get_or, refl, ◌∙◌, subst, arith, Bool, true, false}
+use Rattle.std.specs.Prelude.{ℤ, pos, negsuc, unsigned_abs, Option, Some, None, Result, Ok, Err, nat_lt, All, if◌then◌else◌}
 use Rattle.std.proofs.lemmas.Bool.{and_parts, leb-true}
 use Rattle.std.proofs.lemmas.Nat.Gcd.{le_of_dvd}
-use Rattle.std.proofs.lemmas.List.Elements.{All-nil, All-cons, All-append, All-set}
-use Prim.Native.Nat.{◌∣◌}
-use Rattle.poly_model.specs.Polynomial.{Polynomial, is_over}
+use Rattle.std.proofs.lemmas.List.Elements.{All-nil, All-cons, All-append}
+use Rattle.poly_model.specs.Polynomial.{Polynomial}
 use Rattle.poly_model.specs.Standard.{is_standard, is_bounded, are_bounded}
-use Rattle.poly_model.specs.Content.{coefficients_gcd, begins_negative, signed_by, content}
+use Rattle.poly_model.specs.Content.{coefficients_gcd, begins_negative, signed_by}
 use Rattle.poly_model.specs.Reduction.{main_place, main_degree, initial_of, tail_of, factor_of, parts_of, multiplier_of, primitive_initial, primitive_tail, reduction_of}
 use Rattle.poly_model.specs.Bounded.{bounded_reduction}
 use Rattle.poly_model.specs.declared.limits.TheConstants.{MOST_VARIABLES, MOST_SIZE}
@@ -17,7 +16,7 @@ use Rattle.poly_model.specs.declared.limits.Reason.TheVariants.{Fuel}
 use Rattle.poly_model.proofs.Contents.{gcd-is}
 use Rattle.poly_model.proofs.Primitive.{divisor_some}
 use Rattle.poly_model.proofs.Over.{over-primitive_part, over-initial, over-without, over-reduction}
-use Rattle.poly_model.proofs.Within.{Within, within-of, standard-of}
+use Rattle.poly_model.proofs.Within.{within-of, standard-of}
 use Rattle.poly_model.proofs.Reductions.{then-is, ok-is, bounded_reduction-is}
 use Rattle.poly_model.proofs.Standards.{initial-within, tail-within, factor-within, primitive-within, bounded_cross-standard, bounded_reduction-standard}
 use Rattle.proof_steps.specs.Numbers.{item, without_place}

@@ -1,7 +1,6 @@
 -- The numbers, paths and polynomials of a valid tree are within the limits.
-use Rattle.std.proofs.Common.{◌≡◌, ℕ, ◌+◌, ◌-◌, ◌<◌, ◌≤◌, zero, suc, List, [], ◌∷◌, ◌++◌, length, set, refl, sym, ◌∙◌, ap, subst, arith, Bool, true, false, ◌&&◌, not}
-use Rattle.std.specs.Prelude.{ℤ, Option, Some, None, nat_lt, nat_le, if◌then◌else◌, ◌==◌, All}
-use Rattle.std.specs.List.{list_any}
+use Rattle.std.proofs.Common.{◌≡◌, ℕ, ◌+◌, ◌-◌, ◌<◌, ◌≤◌, zero, suc, List, [], ◌∷◌, ◌++◌, length, refl, sym, ◌∙◌, ap, subst, arith, Bool, true, false, ◌&&◌, not}
+use Rattle.std.specs.Prelude.{Some, None, nat_lt, nat_le, if◌then◌else◌, ◌==◌, All}
 use Rattle.std.specs.Ordering.{int_eq}
 use Rattle.std.proofs.lemmas.Bool.{and_parts, leb-true, eqb-true, eq-eqb}
 use Rattle.std.proofs.lemmas.Bool.Decides.{Decides-int_eq}
@@ -11,15 +10,14 @@ use Rattle.std.proofs.lemmas.Option.{same_Some}
 use Rattle.poly_model.specs.Polynomial.{Polynomial}
 use Rattle.poly_model.specs.Equality.{same-is}
 use Rattle.poly_model.specs.Reduction.{same, is_nonzero_constant, primitive_initial, primitive_tail, reduction_of}
-use Rattle.poly_model.specs.declared.limits.Reason.{Reason}
 use Rattle.poly_model.specs.declared.limits.Reason.TheVariants as reason
 use Rattle.poly_model.specs.declared.limits.TheConstants.{MOST_LETTERS, MOST_HYPOTHESES, MOST_CONCLUSIONS}
 use Rattle.proof_steps.specs.Numbers.{item, has, without_place, replaced}
 use Rattle.proof_steps.specs.Reasons.{same_reason}
-use Rattle.proof_steps.specs.Rules.{is_valid, is_triangular, is_short, limit_of, reason_of, size_of, made, attempt_of, stepped}
+use Rattle.proof_steps.specs.Rules.{is_valid, is_triangular, limit_of, reason_of, size_of, stepped}
 use Rattle.proof_steps.specs.Chain as chain
 use Rattle.proof_steps.specs.Chain.{Due, due_of, chain_reason, is_step, step_due, chain_fits, status_fits}
-use Rattle.proof_steps.specs.Trees.{step_fits, after_steps, same_list, lists, lists_none, outcome_fits, children, follow, are_trees, root_of, is_tree_of}
+use Rattle.proof_steps.specs.Trees.{after_steps, same_list, lists, lists_none, outcome_fits, children, follow, are_trees, root_of}
 use Rattle.proof_steps.specs.declared.piece.ChainStep.{ChainStep}
 use Rattle.proof_steps.specs.declared.piece.LeafStatus.{LeafStatus}
 use Rattle.proof_steps.specs.declared.piece.LeafStatus.TheVariants as status
@@ -27,7 +25,6 @@ use Rattle.proof_steps.specs.declared.piece.Node.{Node}
 use Rattle.proof_steps.specs.declared.piece.Outcome.{Outcome}
 use Rattle.proof_steps.specs.declared.piece.Outcome.TheVariants as outcome
 use Rattle.proof_steps.specs.declared.piece.Piece.{Piece}
-use Rattle.proof_steps.specs.declared.problem.Problem.{Problem}
 use Rattle.proof_steps.specs.declared.step.Attempt.{Attempt}
 use Rattle.proof_steps.specs.declared.step.Attempt.TheVariants as attempt
 use Rattle.proof_steps.specs.declared.step.Step.{Step}
@@ -249,13 +246,12 @@ chain-within n m k todo fuel (c ∷ cs) s r low few all h =
         let within = i.1 in
         let others = more j rest (fuel - (1 + length c.r)) (omega (arith, low, above)) (omega (arith, within, few)) (All-cons (IsPolynomial n) c.r rest told i.4) a.1 in
         record {
-          told = All-cons (IsChainStep n) c cs
-              (
-                subst IsConclusion (sym number) (conclusion-there k j (length todo) low few above (omega (arith, within))),
-                subst IsEquation (sym equation) (equation-there n m f r i.2),
-                subst IsMultiplier (sym multiplier) made.multiplier,
-                told,
-              )
+          told = All-cons (IsChainStep n) c cs (
+            subst IsConclusion (sym number) (conclusion-there k j (length todo) low few above (omega (arith, within))),
+            subst IsEquation (sym equation) (equation-there n m f r i.2),
+            subst IsMultiplier (sym multiplier) made.multiplier,
+            told,
+          )
               others.told;
           status = others.status;
         }

@@ -1,20 +1,20 @@
 -- Small worked trees, and nodes at the limits. Each polynomial is named by its text.
-use Rattle.std.proofs.Common.{◌≡◌, ℕ, List, [], ◌∷◌, ◌++◌, refl, Bool, true, false, replicate, map, take, drop, set, get_or}
-use Rattle.std.specs.Prelude.{ℤ, pos, negsuc}
+use Rattle.std.proofs.Common.{◌≡◌, ℕ, List, [], ◌∷◌, refl, Bool, replicate, map}
+use Rattle.std.specs.Prelude.{pos, negsuc}
 use Rattle.poly_model.specs.Polynomial.{Polynomial}
 use Rattle.poly_model.specs.declared.limits.Reason.TheVariants as reason
 use Rattle.poly_model.specs.declared.limits.TheConstants.{MOST_FUEL, MOST_LETTERS}
 use Rattle.poly_model.specs.declared.vars.VarName.TheVariants.{U, X}
 use Rattle.proof_steps.specs.Rules.{reduction_limit}
 use Rattle.proof_steps.specs.Chain.{chain_within}
-use Rattle.proof_steps.specs.Trees.{is_tree_of, tree_of, tree_within, expansion_within, expansion_of}
-use Rattle.proof_steps.specs.declared.piece.LeafStatus.TheVariants.{Proved, Remainder}
+use Rattle.proof_steps.specs.Trees.{tree_of, tree_within, expansion_within, expansion_of}
+use Rattle.proof_steps.specs.declared.piece.LeafStatus.TheVariants.{Proved}
 use Rattle.proof_steps.specs.declared.piece.Node.{Node}
 use Rattle.proof_steps.specs.declared.piece.Outcome.TheVariants as outcome
 use Rattle.proof_steps.specs.declared.piece.Piece.{Piece}
 use Rattle.proof_steps.specs.declared.problem.Problem.{Problem}
 use Rattle.proof_steps.specs.declared.step.Attempt.TheVariants as attempt
-use Rattle.proof_steps.specs.declared.step.Step.TheVariants.{Drop, Red, Tail}
+use Rattle.proof_steps.specs.declared.step.Step.TheVariants.{Drop}
 use Rattle.tree_laws.proofs.RowWords.{plus, minus, parting, leaf, chain_step}
 
 -- ---- four midpoints: one leaf; the variables are u1, u2, u3, x1, x2, x3, x4

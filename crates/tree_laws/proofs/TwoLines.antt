@@ -1,20 +1,16 @@
 -- A worked tree of nineteen pieces, and four lists of pieces that are no trees of its problem. Each polynomial is named by
 -- its text.
-use Rattle.std.proofs.Common.{◌≡◌, ℕ, List, [], ◌∷◌, ◌++◌, refl, Bool, true, false, replicate, map, take, drop, set, get_or}
-use Rattle.std.specs.Prelude.{ℤ, pos, negsuc}
+use Rattle.std.proofs.Common.{◌≡◌, List, [], ◌∷◌, ◌++◌, refl, false, take, drop, set}
+use Rattle.std.specs.Prelude.{pos, negsuc}
 use Rattle.poly_model.specs.Polynomial.{Polynomial}
-use Rattle.poly_model.specs.declared.limits.Reason.TheVariants as reason
-use Rattle.poly_model.specs.declared.limits.TheConstants.{MOST_FUEL, MOST_LETTERS}
+use Rattle.poly_model.specs.declared.limits.TheConstants.{MOST_FUEL}
 use Rattle.poly_model.specs.declared.vars.VarName.TheVariants.{U, X}
 use Rattle.proof_steps.specs.Rules.{reduction_limit}
 use Rattle.proof_steps.specs.Chain.{chain_within}
-use Rattle.proof_steps.specs.Trees.{is_tree_of, tree_of, tree_within, expansion_within, expansion_of}
+use Rattle.proof_steps.specs.Trees.{is_tree_of, tree_of, tree_within, expansion_within}
 use Rattle.proof_steps.specs.declared.piece.LeafStatus.TheVariants.{Proved, Remainder}
-use Rattle.proof_steps.specs.declared.piece.Node.{Node}
-use Rattle.proof_steps.specs.declared.piece.Outcome.TheVariants as outcome
 use Rattle.proof_steps.specs.declared.piece.Piece.{Piece}
 use Rattle.proof_steps.specs.declared.problem.Problem.{Problem}
-use Rattle.proof_steps.specs.declared.step.Attempt.TheVariants as attempt
 use Rattle.proof_steps.specs.declared.step.Step.TheVariants.{Drop, Red, Tail}
 use Rattle.tree_laws.proofs.RowWords.{plus, minus, parting, leaf, chain_step}
 

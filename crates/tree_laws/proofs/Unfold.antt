@@ -10,7 +10,6 @@ use Rattle.proof_steps.specs.Work.{Next, next}
 use Rattle.proof_steps.specs.Trees.{Recorded, AsStep, AsOutcome, recorded_as, with_step, expansion_recorded, expansion_tried, expansion_by, expansion_within, expansion_of}
 use Rattle.proof_steps.specs.declared.piece.Node.{Node}
 use Rattle.proof_steps.specs.declared.piece.Piece.{Piece}
-use Rattle.proof_steps.specs.declared.piece.Outcome.{Outcome}
 use Rattle.proof_steps.specs.declared.step.Attempt.{Attempt}
 use Rattle.proof_steps.specs.declared.step.Attempt.TheVariants as attempt
 use Rattle.proof_steps.specs.declared.step.Step.{Step}

@@ -1,41 +1,29 @@
 -- The work on a node: its piece follows from it, and its children have fuel for their sizes, and less than the node.
-use Rattle.std.proofs.Common.{◌≡◌, ℕ, ◌+◌, ◌-◌, ◌<◌, ◌≤◌, zero, suc, List, [], ◌∷◌, ◌++◌, length, refl, sym, ◌∙◌, ap, arith, append_assoc, Bool, true, false, ◌&&◌}
-use Rattle.std.specs.Prelude.{◌==◌, Option, Some, None, nat_lt, nat_le, if◌then◌else◌, ℤ}
-use Rattle.std.specs.List.{flat_map}
+use Rattle.std.proofs.Common.{◌≡◌, ℕ, ◌-◌, ◌<◌, ◌≤◌, zero, suc, List, [], ◌∷◌, ◌++◌, refl, ◌∙◌, arith, true}
+use Rattle.std.specs.Prelude.{Option, Some, None}
 use Rattle.std.specs.Ordering.{int_eq}
-use Rattle.std.proofs.lemmas.Bool.{and_from, or_parts, eq-eqb, le-leb, ltb-false}
-use Rattle.std.proofs.lemmas.List.{append-nil}
-use Rattle.std.proofs.lemmas.Bool.Decides.{Decides-int_eq}
+use Rattle.std.proofs.lemmas.Bool.{and_from, or_parts}
 use Rattle.poly_model.specs.Polynomial.{Polynomial}
 use Rattle.proof_steps.specs.Numbers.{item, has, replaced}
 use Rattle.poly_model.specs.Reduction.{same, primitive_initial, primitive_tail, reduction_of}
-use Rattle.proof_steps.specs.Reasons.{same_reason, rank_of}
-use Rattle.proof_steps.specs.Rules.{is_valid, is_triangular, reduction_limit, is_short, reason_of, size_of, attempt_of, tells_result, stepped, dropped, reduced, cut, plus_child, minus_child}
-use Rattle.proof_steps.specs.Chain as chain
-use Rattle.proof_steps.specs.Chain.{Due, due_of, chain_reason, is_step, is_unreduced, status_fits, step_due, chain_fits, chain_stopped, chain_due, chain_within, chain_of}
+use Rattle.proof_steps.specs.Rules.{is_valid, is_triangular, is_short, reason_of, size_of, attempt_of, tells_result, stepped, dropped, reduced, cut, plus_child, minus_child}
+use Rattle.proof_steps.specs.Chain.{chain_of}
 use Rattle.proof_steps.specs.Work as work
 use Rattle.proof_steps.specs.Work.{Next, next}
-use Rattle.proof_steps.specs.Trees.{step_fits, after_steps, same_path, same_list, lists, outcome_fits, children, follow, are_trees, root_of, Recorded, AsStep, AsOutcome, recorded_as, bare, listing, with_step, follow_at, expansion_recorded, expansion_tried, expansion_by, expansion_within, expansion_of, tree_within, tree_at, tree_of}
+use Rattle.proof_steps.specs.Trees.{follow, recorded_as, with_step, expansion_recorded, expansion_tried, expansion_by, expansion_within}
 use Rattle.proof_steps.specs.declared.piece.Node.{Node}
 use Rattle.proof_steps.specs.declared.piece.Piece.{Piece}
-use Rattle.proof_steps.specs.declared.piece.ChainStep.{ChainStep}
-use Rattle.proof_steps.specs.declared.piece.LeafStatus.{LeafStatus}
-use Rattle.proof_steps.specs.declared.piece.LeafStatus.TheVariants as status
-use Rattle.proof_steps.specs.declared.piece.Outcome.{Outcome}
 use Rattle.proof_steps.specs.declared.piece.Outcome.TheVariants as outcome
 use Rattle.proof_steps.specs.declared.step.Attempt.{Attempt}
 use Rattle.proof_steps.specs.declared.step.Attempt.TheVariants as attempt
 use Rattle.proof_steps.specs.declared.step.Step.{Step}
 use Rattle.proof_steps.specs.declared.step.Step.TheVariants as step
 use Rattle.poly_model.specs.declared.limits.Reason.{Reason}
-use Rattle.poly_model.specs.declared.limits.Reason.TheVariants.{Fuel}
-use Rattle.poly_model.specs.Equality.{same-is, same-self}
+use Rattle.poly_model.specs.Equality.{same-self}
 use Rattle.tree_laws.specs.Due.{IsRight}
 use Rattle.tree_laws.proofs.Due.{next-right}
 use Rattle.tree_laws.proofs.Unfold.{size-some, not-short, holds-size, one-short}
 use Rattle.tree_laws.specs.Costs.{total_fuel, HaveLess, WorkFollows}
-use Rattle.tree_laws.specs.Growth.{TreesAreValid, TreesUnfold}
-
 use Rattle.tree_laws.proofs.Fitting.{same_reason-is, int_eq-self, chain-fits, follow-step, follow-bare, follow-listing, listed-self}
 
 -- ---- fuel

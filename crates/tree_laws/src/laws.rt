@@ -29,7 +29,7 @@ pub fn pieces_fit_their_nodes()
 {}
 
 /// The fuel pays: what a piece costs and the fuels of its children add up to at most the node's fuel, whoever made the
-/// piece; so the pieces of a valid tree cost at most the fuel of the problem.
+/// piece; so the pieces of a valid tree cost at most the fuel of the problem, and are no more than it.
 pub fn fuel_pays_for_trees()
     ensures piece { FuelPays }
     ensures tree { TreesArePaid }
