@@ -38,7 +38,8 @@ reducer-there E p x e =
 abbrev pub Stands : ℕ → List Polynomial → ℕ → List Polynomial → Due → Type 0
 Stands n E k todo chain.AllZero = Unit {0}
 Stands n E k todo (chain.Left j p) = (k ≤ j) × (j < k + length todo) × IsPolynomial n p
-Stands n E k todo (chain.Reduce j f p rest) = (k ≤ j) × (j + suc (length rest) ≤ k + length todo) × (has E f ≡ true) × IsPolynomial n p × All (IsPolynomial n) rest
+Stands n E k todo (chain.Reduce j f p rest) =
+    (k ≤ j) × (j + suc (length rest) ≤ k + length todo) × (has E f ≡ true) × IsPolynomial n p × All (IsPolynomial n) rest
 
 later : (n : ℕ) (E : List Polynomial) (k : ℕ) (todo : List Polynomial) (d : Due) → Stands n E (suc k) todo d → Stands n E k ([] ∷ todo) d
 later n E k todo chain.AllZero h = tt

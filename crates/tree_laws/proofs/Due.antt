@@ -39,7 +39,8 @@ none-at test n i e below = first_from-none test n 1 (suc i) e (omega arith) (ome
 less-trans : (a b c : Polynomial) → is_less a b ≡ true → is_less b c ≡ true → is_less a c ≡ true
 less-trans a b c p q = by (main_degree a) (main_degree b) (main_degree c) (length a) (length b) (length c) p q
   where
-    by : (x y z l m n : ℕ) → (nat_lt x y || (x == y && nat_lt l m)) ≡ true → (nat_lt y z || (y == z && nat_lt m n)) ≡ true → (nat_lt x z || (x == z && nat_lt l n)) ≡ true
+    by : (x y z l m n : ℕ) → (nat_lt x y || (x == y && nat_lt l m)) ≡ true → (nat_lt y z || (y == z && nat_lt m n)) ≡ true
+        → (nat_lt x z || (x == z && nat_lt l n)) ≡ true
     by x y z l m n p q =
         elim (or_cases (nat_lt x y) _ p) [
           | inl a ↦ let xy = ltb-true x y a in
@@ -62,10 +63,12 @@ less-trans a b c p q = by (main_degree a) (main_degree b) (main_degree c) (lengt
         ]
 
 less-self : (a : Polynomial) → is_less a a ≡ false
-less-self a = or_from (nat_lt (main_degree a) (main_degree a)) _ (irreflexive (main_degree a)) (second (main_degree a == main_degree a) (nat_lt (length a) (length a)) (irreflexive (length a)))
+less-self a =
+    or_from (nat_lt (main_degree a) (main_degree a)) _ (irreflexive (main_degree a)) (second (main_degree a == main_degree a) (nat_lt (length a) (length a)) (irreflexive (length a)))
   where
     irreflexive : (n : ℕ) → nat_lt n n ≡ false
-    irreflexive n = elim (nat_lt n n) as (λ b. nat_lt n n ≡ b → b ≡ false) [ true ↦ λ e. absurd (let h = ltb-true n n e in omega (arith, h)) | false ↦ λ e. refl ] refl
+    irreflexive n =
+        elim (nat_lt n n) as (λ b. nat_lt n n ≡ b → b ≡ false) [ true ↦ λ e. absurd (let h = ltb-true n n e in omega (arith, h)) | false ↦ λ e. refl ] refl
 
     second : (a b : Bool) → b ≡ false → (a && b) ≡ false
     second true b e = e
@@ -120,7 +123,8 @@ least-there x (p ∷ E) i below c = cases (list_any (λ q. class_of q == x) E) r
         second true b e = e
         second false b e = refl
 
-    keep : (m : Polynomial) (E : List Polynomial) → is_less p m ≡ true → list_all (λ q. not (class_of q == x && is_less q m)) E ≡ true → list_all (λ q. not (class_of q == x && is_less q p)) E ≡ true
+    keep : (m : Polynomial) (E : List Polynomial) → is_less p m ≡ true → list_all (λ q. not (class_of q == x && is_less q m)) E ≡ true
+        → list_all (λ q. not (class_of q == x && is_less q p)) E ≡ true
     keep m [] pm h = refl
     keep m (q ∷ E) pm h =
         let parts = and_parts (not (class_of q == x && is_less q m)) _ h in
@@ -147,7 +151,8 @@ count-none x (p ∷ E) h =
     let rest = count-none x E (λ i below. h (suc i) (omega arith)) in
     sum_by-cons (λ p. cond (class_of p == x) 1 0) p E ∙ (λ i. first i + rest i)
 
-pub count-one : (x : ℕ) (E : List Polynomial) (f : ℕ) → f < length E → class_of (get_or E f []) ≡ x → ((i : ℕ) → i < length E → class_of (get_or E i []) ≡ x → i ≡ f) → count_by (λ p. class_of p == x) E ≡ 1
+pub count-one : (x : ℕ) (E : List Polynomial) (f : ℕ) → f < length E → class_of (get_or E f []) ≡ x
+    → ((i : ℕ) → i < length E → class_of (get_or E i []) ≡ x → i ≡ f) → count_by (λ p. class_of p == x) E ≡ 1
 count-one x [] f below c h = absurd (omega arith)
 count-one x (p ∷ E) zero below c h =
     let first : ◌≡◌ {A = ℕ} (cond (class_of p == x) 1 0) 1 = ap (λ b. cond b 1 0) (eq-eqb _ _ c) in
@@ -158,7 +163,8 @@ count-one x (p ∷ E) (suc f) below c h =
     let rest = count-one x E f (omega arith) c (λ i w q. let e = h (suc i) (omega arith) q in omega (arith, e)) in
     sum_by-cons (λ p. cond (class_of p == x) 1 0) p E ∙ (λ i. first i + rest i)
 
-pub settled-from : (E N : List Polynomial) (x f : ℕ) → f < length E → class_of (get_or E f []) ≡ x → has_known_initial N (get_or E f []) ≡ true → ((i : ℕ) → i < length E → class_of (get_or E i []) ≡ x → i ≡ f)
+pub settled-from : (E N : List Polynomial) (x f : ℕ) → f < length E → class_of (get_or E f []) ≡ x → has_known_initial N (get_or E f []) ≡ true
+    → ((i : ℕ) → i < length E → class_of (get_or E i []) ≡ x → i ≡ f)
     → is_settled E N x ≡ true
 settled-from E N x f below c known only =
     and_from (count_by (λ p. class_of p == x) E == 1) _ (eq-eqb _ 1 (count-one x E f below c only))
@@ -177,7 +183,8 @@ member-number (q ∷ N) p h =
       | inr m ↦ let r = member-number N p m in (suc r.0, ((let w = r.1.0 in omega (arith, w)), r.1.1))
     ]
 
-clash-right : (version : ℕ) (n : Node) (i : ℕ) → has n.eqs i ≡ true → has_polynomial n.nes (item n.eqs i) ≡ true → IsRight version n (work.Clashed i (number_in n.nes (item n.eqs i)))
+clash-right : (version : ℕ) (n : Node) (i : ℕ) → has n.eqs i ≡ true → has_polynomial n.nes (item n.eqs i) ≡ true
+    → IsRight version n (work.Clashed i (number_in n.nes (item n.eqs i)))
 clash-right version n i inside h =
     let p = item n.eqs i in
     let m = member-number n.nes p h in
@@ -195,10 +202,13 @@ pub record Chosen (n : Node) (x : ℕ) : Type 0 where
   pub least : list_all (λ q. not (class_of q == suc x && is_less q (item n.eqs (least n.eqs (suc x))))) n.eqs ≡ true
   pub unsettled : is_settled n.eqs n.nes (suc x) ≡ false
 
-least-from : (E : List Polynomial) (x i : ℕ) → class_of (item E i) ≡ x → list_all (λ q. not (class_of q == x && is_less q (item E i))) E ≡ true → is_least E x i ≡ true
-least-from E x i class least = and_from (class_of (item E i) == x) (list_all (λ q. not (class_of q == x && is_less q (item E i))) E) (eq-eqb (class_of (item E i)) x class) least
+least-from : (E : List Polynomial) (x i : ℕ) → class_of (item E i) ≡ x → list_all (λ q. not (class_of q == x && is_less q (item E i))) E ≡ true
+    → is_least E x i ≡ true
+least-from E x i class least =
+    and_from (class_of (item E i) == x) (list_all (λ q. not (class_of q == x && is_less q (item E i))) E) (eq-eqb (class_of (item E i)) x class) least
 
-least-parts : (E : List Polynomial) (x i : ℕ) → is_least E x i ≡ true → (class_of (item E i) ≡ x) × (list_all (λ q. not (class_of q == x && is_less q (item E i))) E ≡ true)
+least-parts : (E : List Polynomial) (x i : ℕ) → is_least E x i ≡ true
+    → (class_of (item E i) ≡ x) × (list_all (λ q. not (class_of q == x && is_less q (item E i))) E ≡ true)
 least-parts E x i h =
     let a = and_parts (class_of (item E i) == x) (list_all (λ q. not (class_of q == x && is_less q (item E i))) E) h in
     (eqb-true (class_of (item E i)) x a.0, a.1)
@@ -281,7 +291,8 @@ work-right version n x e =
     let c = chosen n x e in
     go c (has_known_initial n.nes (item n.eqs (least n.eqs (suc x)))) refl (has_polynomial n.eqs (primitive_initial (item n.eqs (least n.eqs (suc x))))) refl
   where
-    reached : (c : Chosen n x) → Another n x → nat_le (main_degree (item n.eqs (least n.eqs (suc x)))) (degree_at (main_place (item n.eqs (least n.eqs (suc x)))) (item n.eqs (other n.eqs (suc x) (least n.eqs (suc x))))) ≡ true
+    reached : (c : Chosen n x) → Another n x
+        → nat_le (main_degree (item n.eqs (least n.eqs (suc x)))) (degree_at (main_place (item n.eqs (least n.eqs (suc x)))) (item n.eqs (other n.eqs (suc x) (least n.eqs (suc x))))) ≡ true
     reached c a =
         let g = other n.eqs (suc x) (least n.eqs (suc x)) in
         let F = item n.eqs (least n.eqs (suc x)) in
@@ -299,7 +310,8 @@ work-right version n x e =
         less_false true false p q = refl
         less_false false b p q = absurd (let k : false ≡ true = p in cc)
 
-    go : (c : Chosen n x) → (k : Bool) → has_known_initial n.nes (item n.eqs (least n.eqs (suc x))) ≡ k → (m : Bool) → has_polynomial n.eqs (primitive_initial (item n.eqs (least n.eqs (suc x)))) ≡ m
+    go : (c : Chosen n x) → (k : Bool) → has_known_initial n.nes (item n.eqs (least n.eqs (suc x))) ≡ k → (m : Bool)
+        → has_polynomial n.eqs (primitive_initial (item n.eqs (least n.eqs (suc x)))) ≡ m
         → is_valid version n (work_on n (suc x)) ≡ true
     go c true p m q =
         let f = least n.eqs (suc x) in
@@ -317,7 +329,8 @@ work-right version n x e =
         ∙ and_from (has n.eqs f) _ c.inside (nonconstant (item n.eqs f) x c.class)
 
 -- no rule is due: the system is triangular
-solved-right : (version : ℕ) (n : Node) → first (λ i. is_valid version n (attempt.Drop i)) (length n.eqs) ≡ None → first (λ i. is_nonzero_constant (item n.eqs i)) (length n.eqs) ≡ None
+solved-right : (version : ℕ) (n : Node) → first (λ i. is_valid version n (attempt.Drop i)) (length n.eqs) ≡ None
+    → first (λ i. is_nonzero_constant (item n.eqs i)) (length n.eqs) ≡ None
     → unsettled_class n ≡ 0 → is_triangular n.eqs n.nes ≡ true
 solved-right version n no_drop no_close settled =
     all-from (λ p. not (is_constant p) && is_settled n.eqs n.nes (class_of p)) n.eqs (λ i w.
@@ -366,7 +379,8 @@ next-right version n = drop_step (first (λ i. is_valid version n (attempt.Drop 
     clash_step (Some i) e d c = let h = inside (λ i. has_polynomial n.nes (item n.eqs i)) i e in clash-right version n i h.0 h.1
     clash_step None e d c = class_step d c
 
-    close_step : (r : Option ℕ) → first (λ i. is_nonzero_constant (item n.eqs i)) (length n.eqs) ≡ r → first (λ i. is_valid version n (attempt.Drop i)) (length n.eqs) ≡ None
+    close_step : (r : Option ℕ) → first (λ i. is_nonzero_constant (item n.eqs i)) (length n.eqs) ≡ r
+        → first (λ i. is_valid version n (attempt.Drop i)) (length n.eqs) ≡ None
         → IsRight version n (unwrap_or (option_map work.Closed r) (unwrap_or (clash_due n) (unwrap_or (class_due n) work.Solved)))
     close_step (Some i) e d = let h = inside (λ i. is_nonzero_constant (item n.eqs i)) i e in h
     close_step None e d = clash_step (first (λ i. has_polynomial n.nes (item n.eqs i)) (length n.eqs)) refl d e

@@ -59,7 +59,8 @@ due-fits more E k ps fuel h chain.AllZero e = ap (λ d. status_fits E fuel d sta
 due-fits more E k ps fuel h (chain.Left j p) e = ap (λ d. status_fits E fuel d (status.Remainder j p)) e ∙ and_from (j == j) _ (eq-eqb j j refl) (same-self p)
 due-fits more E k ps fuel h (chain.Reduce j f p rest) e = stopped (chain_reason p (item E f) fuel) refl
   where
-    stopped : (r : Option Reason) → chain_reason p (item E f) fuel ≡ r → chain_fits E k ps fuel (chain_stopped more E fuel j f p rest r).0 (chain_stopped more E fuel j f p rest r).1 ≡ true
+    stopped : (r : Option Reason) → chain_reason p (item E f) fuel ≡ r
+        → chain_fits E k ps fuel (chain_stopped more E fuel j f p rest r).0 (chain_stopped more E fuel j f p rest r).1 ≡ true
     stopped (Some why) q =
         ap (λ d. status_fits E fuel d (status.Unreduced j why f)) e
         ∙ and_from (j == j && f == f) _ (and_from (j == j) _ (eq-eqb j j refl) (eq-eqb f f refl)) (same_reason-is _ _ q)
@@ -71,14 +72,16 @@ due-fits more E k ps fuel h (chain.Reduce j f p rest) e = stopped (chain_reason 
         ∙ and_from _ _ (and_from _ _ (and_from _ _ (and_from (j == j) _ (eq-eqb j j refl) (eq-eqb f f refl)) (and_from (int_eq r.0 r.0) _ (int_eq-self r.0) (same-self r.1))) (same_reason-is _ _ q))
         (h j r.1 rest (fuel - (1 + length r.1)) (omega (arith, paid)))
 
-pub chain-fits : (n : ℕ) (E : List Polynomial) (k : ℕ) (ps : List Polynomial) (fuel : ℕ) → fuel < n → chain_fits E k ps fuel (chain_within n E k ps fuel).0 (chain_within n E k ps fuel).1 ≡ true
+pub chain-fits : (n : ℕ) (E : List Polynomial) (k : ℕ) (ps : List Polynomial) (fuel : ℕ) → fuel < n
+    → chain_fits E k ps fuel (chain_within n E k ps fuel).0 (chain_within n E k ps fuel).1 ≡ true
 unfolding chain_within
 chain-fits zero E k ps fuel below = absurd (omega arith)
 chain-fits (suc n) E k ps fuel below =
     due-fits (λ j rest left. chain_within n E j rest left) E k ps fuel (λ j p rest left less. chain-fits n E j (p ∷ rest) left (omega arith)) (due_of E k ps) refl
 
 -- ---- pieces that fit
-outcome-with_step : (version : ℕ) (cons : List Polynomial) (m : Node) (s : Step) (p : Piece) (x : Outcome) → outcome_fits version cons m (with_step s p) x ≡ outcome_fits version cons m p x
+outcome-with_step : (version : ℕ) (cons : List Polynomial) (m : Node) (s : Step) (p : Piece) (x : Outcome)
+    → outcome_fits version cons m (with_step s p) x ≡ outcome_fits version cons m p x
 outcome-with_step version cons m s p (outcome.Split f j) = refl
 outcome-with_step version cons m s p (outcome.Close i) = refl
 outcome-with_step version cons m s p (outcome.Clash i j) = refl
@@ -95,10 +98,12 @@ follow-step version cons n s p h path =
     at None = refl
     at (Some m) = λ i. if same_path p.path (sym path i) && outcome-with_step version cons m s p p.outcome i then Some (children version m p.outcome) else None
 
-pub follow-bare : (version : ℕ) (cons : List Polynomial) (n : Node) (x : Outcome) → outcome_fits version cons n (bare n x) x ≡ true → follow version cons n (bare n x) ≡ Some (children version n x)
+pub follow-bare : (version : ℕ) (cons : List Polynomial) (n : Node) (x : Outcome) → outcome_fits version cons n (bare n x) x ≡ true
+    → follow version cons n (bare n x) ≡ Some (children version n x)
 follow-bare version cons n x h = ap (λ b. if b then Some (children version n x) else None) (and_from (same_path n.path n.path) _ (same_path-self n.path) h)
 
-pub follow-listing : (version : ℕ) (cons : List Polynomial) (n : Node) (x : Outcome) → outcome_fits version cons n (listing n x) x ≡ true → follow version cons n (listing n x) ≡ Some (children version n x)
+pub follow-listing : (version : ℕ) (cons : List Polynomial) (n : Node) (x : Outcome) → outcome_fits version cons n (listing n x) x ≡ true
+    → follow version cons n (listing n x) ≡ Some (children version n x)
 follow-listing version cons n x h = ap (λ b. if b then Some (children version n x) else None) (and_from (same_path n.path n.path) _ (same_path-self n.path) h)
 
 pub listed-self : (n : Node) (x : Outcome) → lists (listing n x) n ≡ true

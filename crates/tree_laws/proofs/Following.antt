@@ -98,7 +98,8 @@ pub record First (version : ℕ) (cons : List Polynomial) (n : Node) (ns : List 
   pub follows : follow version cons n p ≡ Some nodes
   pub trees : are_trees version cons (nodes ++ ns) ps ≡ true
 
-pub first-of : (version : ℕ) (cons : List Polynomial) (n : Node) (ns : List Node) (p : Piece) (ps : List Piece) → are_trees version cons (n ∷ ns) (p ∷ ps) ≡ true → First version cons n ns p ps
+pub first-of : (version : ℕ) (cons : List Polynomial) (n : Node) (ns : List Node) (p : Piece) (ps : List Piece)
+    → are_trees version cons (n ∷ ns) (p ∷ ps) ≡ true → First version cons n ns p ps
 first-of version cons n ns p ps h =
     elim (follow version cons n p) as (λ r. follow version cons n p ≡ r → (elim r as (λ _. Bool) [ None ↦ false | Some ms ↦ are_trees version cons (ms ++ ns) ps ]) ≡ true → First version cons n ns p ps) [
       | None ↦ λ e q. cc

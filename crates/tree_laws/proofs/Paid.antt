@@ -88,7 +88,8 @@ none-cost p h =
     let y : sizes p.nes ≡ 0 = ap sizes (same_list-is p.nes [] a.1) in
     omega (arith, x, y)
 
-chain-paid : (E : List Polynomial) (k : ℕ) (todo : List Polynomial) (fuel : ℕ) (cs : List ChainStep) (s : LeafStatus) → chain_fits E k todo fuel cs s ≡ true → chain_cost cs ≤ fuel
+chain-paid : (E : List Polynomial) (k : ℕ) (todo : List Polynomial) (fuel : ℕ) (cs : List ChainStep) (s : LeafStatus) → chain_fits E k todo fuel cs s ≡ true
+    → chain_cost cs ≤ fuel
 chain-paid E k todo fuel [] s h = omega arith
 chain-paid E k todo fuel (c ∷ cs) s h = at (due_of E k todo) h (λ j rest left q. chain-paid E j (c.r ∷ rest) left cs s q)
   where
@@ -150,7 +151,8 @@ fuel-pays version cons n p ms enough h =
     let k : total_fuel (children version f.end p.outcome) ≡ total_fuel ms = ap total_fuel f.nodes in
     ((let x = a.within in let y = b.within in omega (arith, x, y, k)), subst HaveFuel f.nodes b.enough)
 
-pub trees-paid : (version : ℕ) (cons : List Polynomial) (ps : List Piece) (ns : List Node) → HaveFuel ns → are_trees version cons ns ps ≡ true → pieces_cost ps ≤ total_fuel ns
+pub trees-paid : (version : ℕ) (cons : List Polynomial) (ps : List Piece) (ns : List Node) → HaveFuel ns → are_trees version cons ns ps ≡ true
+    → pieces_cost ps ≤ total_fuel ns
 trees-paid version cons [] ns a h = omega arith
 trees-paid version cons (p ∷ ps) [] a h = cc
 trees-paid version cons (p ∷ ps) (n ∷ ns) a h =
@@ -211,8 +213,10 @@ reasons-are-right version n a = (first, short, free)
     unmet : limit_of version n a ≡ None → reason_of version n a ≡ (if list_any is_short (made version n a) then Some Fuel else None)
     unmet e = ap (λ r. reason_by r (list_any is_short (made version n a))) e
 
-    short : limit_of version n a ≡ None → ((HaveFuel (made version n a) → ⊥) → reason_of version n a ≡ Some Fuel) × (reason_of version n a ≡ Some Fuel → HaveFuel (made version n a) → ⊥)
-    short e = (wanting (list_any is_short (made version n a)) refl, λ q h. some-apart Fuel (sym (unmet e ∙ ap (λ b. if b then Some Fuel else None) (not-any (made version n a) h)) ∙ q))
+    short : limit_of version n a ≡ None
+        → ((HaveFuel (made version n a) → ⊥) → reason_of version n a ≡ Some Fuel) × (reason_of version n a ≡ Some Fuel → HaveFuel (made version n a) → ⊥)
+    short e =
+        (wanting (list_any is_short (made version n a)) refl, λ q h. some-apart Fuel (sym (unmet e ∙ ap (λ b. if b then Some Fuel else None) (not-any (made version n a) h)) ∙ q))
       where
         wanting : (b : Bool) → list_any is_short (made version n a) ≡ b → (HaveFuel (made version n a) → ⊥) → reason_of version n a ≡ Some Fuel
         wanting true t h = unmet e ∙ ap (λ b. if b then Some Fuel else None) t

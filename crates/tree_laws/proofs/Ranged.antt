@@ -190,7 +190,8 @@ record Ended (n : ℕ) (version : ℕ) (m : Node) (x : Outcome) : Type 0 where
 conclusion-there : (k j len : ℕ) → 1 ≤ k → k + len ≤ 1 + MOST_CONCLUSIONS → k ≤ j → j < k + len → IsConclusion j
 conclusion-there k j len low few above below = (omega (arith, low, above), omega (arith, few, below))
 
-status-within : (n : ℕ) (m : Node) (k : ℕ) (todo : List Polynomial) (fuel : ℕ) (s : LeafStatus) (d : Due) → IsNode n m → 1 ≤ k → k + length todo ≤ 1 + MOST_CONCLUSIONS
+status-within : (n : ℕ) (m : Node) (k : ℕ) (todo : List Polynomial) (fuel : ℕ) (s : LeafStatus) (d : Due) → IsNode n m → 1 ≤ k
+    → k + length todo ≤ 1 + MOST_CONCLUSIONS
     → Stands n m.eqs k todo d → status_fits m.eqs fuel d s ≡ true → IsStatus n s
 status-within n m k todo fuel status.Proved d r low few i h = tt
 status-within n m k todo fuel (status.Remainder j q) chain.AllZero r low few i h = cc
@@ -216,7 +217,8 @@ record Chained (n : ℕ) (cs : List ChainStep) (s : LeafStatus) : Type 0 where
   told : All (IsChainStep n) cs
   status : IsStatus n s
 
-chain-within : (n : ℕ) (m : Node) (k : ℕ) (todo : List Polynomial) (fuel : ℕ) (cs : List ChainStep) (s : LeafStatus) → IsNode n m → 1 ≤ k → k + length todo ≤ 1 + MOST_CONCLUSIONS
+chain-within : (n : ℕ) (m : Node) (k : ℕ) (todo : List Polynomial) (fuel : ℕ) (cs : List ChainStep) (s : LeafStatus) → IsNode n m → 1 ≤ k
+    → k + length todo ≤ 1 + MOST_CONCLUSIONS
     → All (IsPolynomial n) todo → chain_fits m.eqs k todo fuel cs s ≡ true → Chained n cs s
 chain-within n m k todo fuel [] s r low few all h =
     record { told = All-nil (IsChainStep n); status = status-within n m k todo fuel s (due_of m.eqs k todo) r low few (stands n m.eqs k todo all) h }
@@ -257,7 +259,8 @@ chain-within n m k todo fuel (c ∷ cs) s r low few all h =
         }
 
 -- ---- outcomes
-outcome-within : (version n : ℕ) (cons : List Polynomial) (m : Node) (p : Piece) (x : Outcome) → IsNode n m → length cons ≤ MOST_CONCLUSIONS → All (IsPolynomial n) cons
+outcome-within : (version n : ℕ) (cons : List Polynomial) (m : Node) (p : Piece) (x : Outcome) → IsNode n m → length cons ≤ MOST_CONCLUSIONS
+    → All (IsPolynomial n) cons
     → outcome_fits version cons m p x ≡ true → Ended n version m x
 outcome-within version n cons m p (outcome.Split f initial) r few all h =
     let J = primitive_initial (item m.eqs f) in
@@ -339,12 +342,14 @@ listed-none n m p h =
       all = (subst (All (IsPolynomial n)) e (All-nil (IsPolynomial n)), subst (All (IsPolynomial n)) c (All-nil (IsPolynomial n)));
     }
 
-listed-within : (version n : ℕ) (cons : List Polynomial) (m : Node) (p : Piece) (x : Outcome) → IsNode n m → outcome_fits version cons m p x ≡ true → Listed n p.eqs p.nes m
+listed-within : (version n : ℕ) (cons : List Polynomial) (m : Node) (p : Piece) (x : Outcome) → IsNode n m → outcome_fits version cons m p x ≡ true
+    → Listed n p.eqs p.nes m
 listed-within version n cons m p (outcome.Split f initial) r h =
     let a = and_parts (is_valid version m (attempt.Split f) && same_reason (reason_of version m (attempt.Split f)) None) (same initial (primitive_initial (item m.eqs f)) && lists_none p) h in
     listed-none n m p (and_parts (same initial (primitive_initial (item m.eqs f))) (lists_none p) a.1).1
 listed-within version n cons m p (outcome.Close i) r h = listed-none n m p (and_parts (has m.eqs i && is_nonzero_constant (item m.eqs i)) (lists_none p) h).1
-listed-within version n cons m p (outcome.Clash i j) r h = listed-none n m p (and_parts (has m.eqs i && (has m.nes j && same (item m.eqs i) (item m.nes j))) (lists_none p) h).1
+listed-within version n cons m p (outcome.Clash i j) r h =
+    listed-none n m p (and_parts (has m.eqs i && (has m.nes j && same (item m.eqs i) (item m.nes j))) (lists_none p) h).1
 listed-within version n cons m p (outcome.System cs s) r h =
     listed-there n m p r (and_parts (is_triangular m.eqs m.nes && chain_fits m.eqs 1 cons (m.fuel - size_of m) cs s) (lists p m) h).1
 listed-within version n cons m p (outcome.Open why what) r h =
@@ -355,7 +360,8 @@ record Piecewise (n : ℕ) (p : Piece) (ms : List Node) : Type 0 where
   told : IsPiece n p
   nodes : AreNodes n ms
 
-piece-within : (version n : ℕ) (cons : List Polynomial) (m : Node) (p : Piece) (ms : List Node) → IsNode n m → length cons ≤ MOST_CONCLUSIONS → All (IsPolynomial n) cons
+piece-within : (version n : ℕ) (cons : List Polynomial) (m : Node) (p : Piece) (ms : List Node) → IsNode n m → length cons ≤ MOST_CONCLUSIONS
+    → All (IsPolynomial n) cons
     → follow version cons m p ≡ Some ms → Piecewise n p ms
 piece-within version n cons m p ms r few all h =
     let f = fits version cons m p ms h in
@@ -382,7 +388,8 @@ piece-within version n cons m p ms r few all h =
       nodes = subst (AreNodes n) f.nodes o.nodes;
     }
 
-pub pieces-within : (version n : ℕ) (cons : List Polynomial) (ps : List Piece) (ns : List Node) → length cons ≤ MOST_CONCLUSIONS → All (IsPolynomial n) cons → AreNodes n ns
+pub pieces-within : (version n : ℕ) (cons : List Polynomial) (ps : List Piece) (ns : List Node) → length cons ≤ MOST_CONCLUSIONS → All (IsPolynomial n) cons
+    → AreNodes n ns
     → are_trees version cons ns ps ≡ true → All (IsPiece n) ps
 pieces-within version n cons [] ns few all a h = All-nil (IsPiece n)
 pieces-within version n cons (p ∷ ps) [] few all a h = cc

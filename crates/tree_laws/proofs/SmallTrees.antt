@@ -37,7 +37,8 @@ abbrev _2*u1*x2-u1*u3 : Polynomial
 _2*u1*x2-u1*u3 = ((1 ∷ 0 ∷ 0 ∷ 0 ∷ 1 ∷ 0 ∷ 0 ∷ []), pos 2) ∷ ((1 ∷ 0 ∷ 1 ∷ 0 ∷ 0 ∷ 0 ∷ 0 ∷ []), negsuc 0) ∷ []
 
 abbrev midpoints : Problem
-midpoints = record { vars = (U 1 ∷ U 2 ∷ U 3 ∷ X 1 ∷ X 2 ∷ X 3 ∷ X 4 ∷ []); hyps = (_2*x1-u2 ∷ _2*x2-u3 ∷ _2*x3-u2-u1 ∷ _2*x4-u3 ∷ []); cons = (u1*x4-u1*x2 ∷ []) }
+midpoints =
+    record { vars = (U 1 ∷ U 2 ∷ U 3 ∷ X 1 ∷ X 2 ∷ X 3 ∷ X 4 ∷ []); hyps = (_2*x1-u2 ∷ _2*x2-u3 ∷ _2*x3-u2-u1 ∷ _2*x4-u3 ∷ []); cons = (u1*x4-u1*x2 ∷ []) }
 
 abbrev midpoints-tree : List Piece
 midpoints-tree =

@@ -83,7 +83,8 @@ by-same p q version cons n h (work.Try a) = tried (reason_of version n a) refl
     tried (Some why) e = refl
     tried None e = taken e (recorded_as n a) refl
 
-expansion-same : (k l version : ℕ) (cons : List Polynomial) (n : Node) → n.fuel ≤ k → n.fuel ≤ l → size_of n ≤ n.fuel → expansion_within k version cons n ≡ expansion_within l version cons n
+expansion-same : (k l version : ℕ) (cons : List Polynomial) (n : Node) → n.fuel ≤ k → n.fuel ≤ l → size_of n ≤ n.fuel
+    → expansion_within k version cons n ≡ expansion_within l version cons n
 unfolding expansion_within
 expansion-same zero l version cons n low high enough = absurd (let s = size-some n in omega (arith, s))
 expansion-same (suc k) zero version cons n low high enough = absurd (let s = size-some n in omega (arith, s))
@@ -91,12 +92,14 @@ expansion-same (suc k) (suc l) version cons n low high enough =
     by-same (λ m. expansion_within k version cons m) (λ m. expansion_within l version cons m) version cons n
     (λ m less fits. expansion-same k l version cons m (omega arith) (omega arith) fits) (next version n)
 
-unfolded : (k version : ℕ) (cons : List Polynomial) (n : Node) → expansion_within (suc k) version cons n ≡ expansion_by (λ m. expansion_within k version cons m) version cons n (next version n)
+unfolded : (k version : ℕ) (cons : List Polynomial) (n : Node)
+    → expansion_within (suc k) version cons n ≡ expansion_by (λ m. expansion_within k version cons m) version cons n (next version n)
 unfolding expansion_within
 unfolded k version cons n = refl
 
 -- the expansion of a node goes by what is due there, and after a step by the expansion of the node that is left
-pub expansion-is : (version : ℕ) (cons : List Polynomial) (n : Node) → size_of n ≤ n.fuel → expansion_of version cons n ≡ expansion_by (λ m. expansion_of version cons m) version cons n (next version n)
+pub expansion-is : (version : ℕ) (cons : List Polynomial) (n : Node) → size_of n ≤ n.fuel
+    → expansion_of version cons n ≡ expansion_by (λ m. expansion_of version cons m) version cons n (next version n)
 expansion-is version cons n enough =
     expansion-same n.fuel (suc n.fuel) version cons n (omega arith) (omega arith) enough ∙ unfolded n.fuel version cons n
     ∙ by-same (λ m. expansion_within n.fuel version cons m) (λ m. expansion_of version cons m) version cons n
@@ -124,7 +127,8 @@ pub record IsRest (version : ℕ) (cons : List Polynomial) (n : Node) (steps : L
 abbrev pub more : ℕ → List Polynomial → Node → Piece × List Node
 more version cons m = expansion_of version cons m
 
-rest : (version : ℕ) (cons : List Polynomial) (n here : Node) (steps : List Step) → Whole version cons n here steps → (e : Piece × List Node) → expansion_of version cons here ≡ e
+rest : (version : ℕ) (cons : List Polynomial) (n here : Node) (steps : List Step) → Whole version cons n here steps → (e : Piece × List Node)
+    → expansion_of version cons here ≡ e
     → IsRest version cons n steps e
 rest version cons n here steps w e q = record {
   piece = ap (λ (t : Piece × List Node). prefixed steps t.0) (sym q) ∙ sym w.piece;
@@ -143,7 +147,8 @@ by_reason version cons n here steps a r w q e =
     (expansion-is version cons here w.enough ∙ ap (expansion_by (more version cons) version cons here) (sym q) ∙ ap (expansion_tried (more version cons) version here a) e)
 
 pub by_record : (version : ℕ) (cons : List Polynomial) (n here : Node) (steps : List Step) (a : Attempt) (r : Recorded) → Whole version cons n here steps
-    → work.Try a ≡ next version here → reason_of version here a ≡ None → recorded_as here a ≡ r → IsRest version cons n steps (expansion_recorded (more version cons) version here a r)
+    → work.Try a ≡ next version here → reason_of version here a ≡ None → recorded_as here a ≡ r
+    → IsRest version cons n steps (expansion_recorded (more version cons) version here a r)
 by_record version cons n here steps a r w q e t =
     rest version cons n here steps w _
     (expansion-is version cons here w.enough ∙ ap (expansion_by (more version cons) version cons here) (sym q)

@@ -37,20 +37,26 @@ pub record Worked (version : ℕ) (cons : List Polynomial) (n : Node) (e : Piece
   pub smaller : HaveLess n.fuel e.1
   pub total : total_fuel e.1 < n.fuel
 
-stepping : (version : ℕ) (cons : List Polynomial) (n : Node) (s : Step) (e : Piece × List Node) → is_valid version n (attempt_of s) ≡ true → reason_of version n (attempt_of s) ≡ None → tells_result n s ≡ true
+stepping : (version : ℕ) (cons : List Polynomial) (n : Node) (s : Step) (e : Piece × List Node) → is_valid version n (attempt_of s) ≡ true
+    → reason_of version n (attempt_of s) ≡ None → tells_result n s ≡ true
     → (stepped n s).path ≡ n.path → (stepped n s).fuel ≤ n.fuel → Worked version cons (stepped n s) e → Worked version cons n (with_step s e.0, e.1)
 stepping version cons n s e valid free tells path less w = record {
-  follows = follow-step version cons n s e.0 (and_from _ _ (and_from (is_valid version n (attempt_of s)) _ valid (same_reason-is _ _ free)) tells) path ∙ w.follows;
+  follows =
+      follow-step version cons n s e.0 (and_from _ _ (and_from (is_valid version n (attempt_of s)) _ valid (same_reason-is _ _ free)) tells) path ∙ w.follows;
   smaller = fit-more (stepped n s).fuel n.fuel e.1 less w.smaller;
   total = (let t = w.total in omega (arith, t, less));
 }
+
+-- the expansions of nodes with at most so much fuel, by as many rules
+abbrev Works : (k version : ℕ) → List Polynomial → Type 0
+Works k version cons = (m : Node) → m.fuel ≤ k → size_of m ≤ m.fuel → Worked version cons m (expansion_within k version cons m)
 
 pub worked : (k version : ℕ) (cons : List Polynomial) (n : Node) → n.fuel ≤ k → size_of n ≤ n.fuel → Worked version cons n (expansion_within k version cons n)
 unfolding expansion_within
 worked zero version cons n low enough = absurd (let s = size-some n in omega (arith, s))
 worked (suc k) version cons n low enough = by (next version n) (next-right version n) (λ m less fits. worked k version cons m less fits)
   where
-    recorded : ((m : Node) → m.fuel ≤ k → size_of m ≤ m.fuel → Worked version cons m (expansion_within k version cons m)) → (a : Attempt) → is_valid version n a ≡ true → reason_of version n a ≡ None
+    recorded : Works k version cons → (a : Attempt) → is_valid version n a ≡ true → reason_of version n a ≡ None
         → Worked version cons n (expansion_recorded (λ m. expansion_within k version cons m) version n a (recorded_as n a))
     recorded more (attempt.Drop i) valid free =
         let fits = one-short (dropped n i) (not-short version n (attempt.Drop i) free) in
@@ -80,23 +86,28 @@ worked (suc k) version cons n low enough = by (next version n) (next-right versi
           total = omega (arith, plus, some);
         }
 
-    tried : ((m : Node) → m.fuel ≤ k → size_of m ≤ m.fuel → Worked version cons m (expansion_within k version cons m)) → (a : Attempt) → is_valid version n a ≡ true → (r : Option Reason) → reason_of version n a ≡ r
+    tried : Works k version cons → (a : Attempt) → is_valid version n a ≡ true → (r : Option Reason) → reason_of version n a ≡ r
         → Worked version cons n (expansion_tried (λ m. expansion_within k version cons m) version n a r)
     tried more a valid (Some why) q = record {
-      follows = follow-listing version cons n (outcome.Open why a) (and_from _ _ (and_from (is_valid version n a) _ valid (same_reason-is _ _ q)) (listed-self n (outcome.Open why a)));
+      follows =
+          follow-listing version cons n (outcome.Open why a) (and_from _ _ (and_from (is_valid version n a) _ valid (same_reason-is _ _ q)) (listed-self n (outcome.Open why a)));
       smaller = tt;
       total = (let s = size-some n in omega (arith, s, enough));
     }
     tried more a valid None q = recorded more a valid q
 
-    by : (x : Next) → IsRight version n x → ((m : Node) → m.fuel ≤ k → size_of m ≤ m.fuel → Worked version cons m (expansion_within k version cons m)) → Worked version cons n (expansion_by (λ m. expansion_within k version cons m) version cons n x)
-    by (work.Closed i) r more = record { follows = follow-bare version cons n (outcome.Close i) (and_from _ _ (and_from (has n.eqs i) _ r.0 r.1) refl); smaller = tt; total = (let s = size-some n in omega (arith, s, enough)) }
-    by (work.Clashed i j) r more = record { follows = follow-bare version cons n (outcome.Clash i j) (and_from _ _ (and_from (has n.eqs i) _ r.0 (and_from (has n.nes j) _ r.1 r.2)) refl); smaller = tt; total = (let s = size-some n in omega (arith, s, enough)) }
+    by : (x : Next) → IsRight version n x → Works k version cons
+        → Worked version cons n (expansion_by (λ m. expansion_within k version cons m) version cons n x)
+    by (work.Closed i) r more =
+        record { follows = follow-bare version cons n (outcome.Close i) (and_from _ _ (and_from (has n.eqs i) _ r.0 r.1) refl); smaller = tt; total = (let s = size-some n in omega (arith, s, enough)) }
+    by (work.Clashed i j) r more =
+        record { follows = follow-bare version cons n (outcome.Clash i j) (and_from _ _ (and_from (has n.eqs i) _ r.0 (and_from (has n.nes j) _ r.1 r.2)) refl); smaller = tt; total = (let s = size-some n in omega (arith, s, enough)) }
     by work.Solved r more =
         let left = n.fuel - size_of n in
         let c = chain_of n.eqs cons left in
         record {
-          follows = follow-listing version cons n (outcome.System c.0 c.1) (and_from _ _ (and_from (is_triangular n.eqs n.nes) _ r (chain-fits (suc left) n.eqs 1 cons left (omega arith))) (listed-self n (outcome.System c.0 c.1)));
+          follows =
+              follow-listing version cons n (outcome.System c.0 c.1) (and_from _ _ (and_from (is_triangular n.eqs n.nes) _ r (chain-fits (suc left) n.eqs 1 cons left (omega arith))) (listed-self n (outcome.System c.0 c.1)));
           smaller = tt;
           total = (let s = size-some n in omega (arith, s, enough));
         }

@@ -14,4 +14,6 @@ TreesUnfold = (version : ℕ) (cons : List Polynomial) (n : Node) → size_of n 
 
 -- The tree of a problem whose root has fuel for its size is valid.
 abbrev pub TreesAreValid : Type 0
-TreesAreValid = (version : ℕ) (problem : Problem) (fuel : ℕ) → size_of (root_of problem fuel) ≤ fuel → IsTrue (is_tree_of version problem fuel (tree_of version problem fuel))
+TreesAreValid =
+    (version : ℕ) (problem : Problem) (fuel : ℕ) → size_of (root_of problem fuel) ≤ fuel
+    → IsTrue (is_tree_of version problem fuel (tree_of version problem fuel))

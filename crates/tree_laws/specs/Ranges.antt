@@ -79,4 +79,5 @@ pub record IsProblem (n : ℕ) (problem : Problem) : Type 0 where
 
 -- Each piece of a valid tree of such a problem is such a piece.
 abbrev pub TreesAreWithinLimits : Type 0
-TreesAreWithinLimits = (version n : ℕ) (problem : Problem) (fuel : ℕ) (ps : List Piece) → IsProblem n problem → IsTrue (is_tree_of version problem fuel ps) → All (IsPiece n) ps
+TreesAreWithinLimits =
+    (version n : ℕ) (problem : Problem) (fuel : ℕ) (ps : List Piece) → IsProblem n problem → IsTrue (is_tree_of version problem fuel ps) → All (IsPiece n) ps
