@@ -54,5 +54,6 @@ stands n E k ((e ∷ p) ∷ todo) all =
     → Stands n E k ((e ∷ p) ∷ todo) (elim x [ zero ↦ chain.Left k (e ∷ p) | suc y ↦ chain.Reduce k (first_of_class E (suc y)) (e ∷ p) todo ])) [
       | zero ↦ λ q. (omega arith, omega arith, all-first (IsPolynomial n) (e ∷ p) todo all)
       | suc x ↦ λ q.
-          (omega arith, omega arith, (reducer-there E (e ∷ p) x q).inside, all-first (IsPolynomial n) (e ∷ p) todo all, all-rest (IsPolynomial n) (e ∷ p) todo all)
+          let p' = e ∷ p in
+          (omega arith, omega arith, (reducer-there E p' x q).inside, all-first (IsPolynomial n) p' todo all, all-rest (IsPolynomial n) p' todo all)
     ] refl

@@ -7,7 +7,7 @@ use Rattle.std.proofs.lemmas.Bool.{and_parts, and_from, and_cases, or_cases, or_
 use Rattle.std.proofs.lemmas.List.Sums.{sum_by-cons}
 use Rattle.poly_model.specs.Polynomial.{Polynomial}
 use Rattle.proof_steps.specs.Numbers.{item, has, first}
-use Rattle.poly_model.specs.Reduction.{same, has_polynomial, class_of, number_of, is_constant, is_zero, is_nonzero_constant, main_place, main_degree, degree_at, primitive_initial}
+use Rattle.poly_model.specs.Reduction.{same, has_polynomial, class_of, number_of, is_constant, is_zero, is_nonzero_constant, main_place, main_degree, degree_at, reaches, primitive_initial}
 use Rattle.proof_steps.specs.Rules.{has_known_initial, is_settled, is_triangular, is_valid}
 use Rattle.proof_steps.specs.Work as work
 use Rattle.proof_steps.specs.Work.{Next, drop_due, close_due, clash_due, class_due, number_in, unsettled_class, is_less, is_least, least, other, work_on, next}
@@ -64,7 +64,8 @@ less-trans a b c p q = by (main_degree a) (main_degree b) (main_degree c) (lengt
 
 less-self : (a : Polynomial) → is_less a a ≡ false
 less-self a =
-    or_from (nat_lt (main_degree a) (main_degree a)) _ (irreflexive (main_degree a)) (second (main_degree a == main_degree a) (nat_lt (length a) (length a)) (irreflexive (length a)))
+    or_from (nat_lt (main_degree a) (main_degree a)) _ (irreflexive (main_degree a))
+    (second (main_degree a == main_degree a) (nat_lt (length a) (length a)) (irreflexive (length a)))
   where
     irreflexive : (n : ℕ) → nat_lt n n ≡ false
     irreflexive n =
@@ -139,8 +140,10 @@ least-there x (p ∷ E) i below c = cases (list_any (λ q. class_of q == x) E) r
         elim (class_of p == x && is_less p (get_or E m.at [])) as (λ b. (class_of p == x && is_less p (get_or E m.at [])) ≡ b → Least x (p ∷ E)) [
           | true ↦ λ t.
               let parts = and_parts (class_of p == x) _ t in
-              record { at = 0; within = omega arith; class = eqb-true _ _ parts.0; least = and_from _ _ (first_is p) (keep (get_or E m.at []) E parts.1 m.least) }
-          | false ↦ λ t. record { at = suc m.at; within = (let w = m.within in omega (arith, w)); class = m.class; least = and_from _ _ (not_from_false _ t) m.least }
+              let least = and_from _ _ (first_is p) (keep (get_or E m.at []) E parts.1 m.least) in
+              record { at = 0; within = omega arith; class = eqb-true _ _ parts.0; least = least }
+          | false ↦ λ t.
+              record { at = suc m.at; within = (let w = m.within in omega (arith, w)); class = m.class; least = and_from _ _ (not_from_false _ t) m.least }
         ] refl
 
 -- ---- a class with one equation
@@ -159,7 +162,8 @@ count-one x (p ∷ E) zero below c h =
     let rest = count-none x E (λ i w q. let e = h (suc i) (omega arith) q in omega (arith, e)) in
     sum_by-cons (λ p. cond (class_of p == x) 1 0) p E ∙ (λ i. first i + rest i)
 count-one x (p ∷ E) (suc f) below c h =
-    let first : ◌≡◌ {A = ℕ} (cond (class_of p == x) 1 0) 0 = ap (λ b. cond b 1 0) (ne_eqb (class_of p) x (λ q. let e = h 0 (omega arith) q in omega (arith, e))) in
+    let apart = ne_eqb (class_of p) x (λ q. let e = h 0 (omega arith) q in omega (arith, e)) in
+    let first : ◌≡◌ {A = ℕ} (cond (class_of p == x) 1 0) 0 = ap (λ b. cond b 1 0) apart in
     let rest = count-one x E f (omega arith) c (λ i w q. let e = h (suc i) (omega arith) q in omega (arith, e)) in
     sum_by-cons (λ p. cond (class_of p == x) 1 0) p E ∙ (λ i. first i + rest i)
 
@@ -175,6 +179,16 @@ settled-from E N x f below c known only =
     ] refl))
 
 -- ---- what is due is valid
+-- the equations that are looked for
+abbrev may_drop : ℕ → Node → ℕ → Bool
+may_drop version n i = is_valid version n (attempt.Drop i)
+
+abbrev may_close : Node → ℕ → Bool
+may_close n i = is_nonzero_constant (item n.eqs i)
+
+abbrev may_clash : Node → ℕ → Bool
+may_clash n i = has_polynomial n.nes (item n.eqs i)
+
 pub member-number : (N : List Polynomial) (p : Polynomial) → has_polynomial N p ≡ true → (j : ℕ) × ((j < length N) × (same (get_or N j []) p ≡ true))
 member-number [] p h = absurd (let e : false ≡ true = h in cc)
 member-number (q ∷ N) p h =
@@ -188,7 +202,8 @@ clash-right : (version : ℕ) (n : Node) (i : ℕ) → has n.eqs i ≡ true → 
 clash-right version n i inside h =
     let p = item n.eqs i in
     let m = member-number n.nes p h in
-    let f = first_from-found (λ j. same (item n.nes j) p) (length n.nes) 1 (suc m.0) (omega arith) (let w = m.1.0 in omega (arith, w)) (ap (λ r. same r p) (item-next n.nes m.0) ∙ m.1.1) in
+    let equal = ap (λ r. same r p) (item-next n.nes m.0) ∙ m.1.1 in
+    let f = first_from-found (λ j. same (item n.nes j) p) (length n.nes) 1 (suc m.0) (omega arith) (let w = m.1.0 in omega (arith, w)) equal in
     let number : number_in n.nes p ≡ f.at = ap (λ r. unwrap_or r 0) f.found in (
       inside,
       ap (has n.nes) number ∙ has-from n.nes f.at f.low f.high,
@@ -249,18 +264,15 @@ pub record Another (n : Node) (x : ℕ) : Type 0 where
   pub class : class_of (item n.eqs (other n.eqs (suc x) (least n.eqs (suc x)))) ≡ suc x
   pub apart : not (other n.eqs (suc x) (least n.eqs (suc x)) == least n.eqs (suc x)) ≡ true
 
+abbrev is_another : Node → ℕ → ℕ → Bool
+is_another n x g = class_of (item n.eqs g) == suc x && not (g == least n.eqs (suc x))
+
 pub another : (n : Node) (x : ℕ) → Chosen n x → has_known_initial n.nes (item n.eqs (least n.eqs (suc x))) ≡ true → Another n x
-another n x c known = go (first test (length n.eqs)) refl
+another n x c known = go (first (is_another n x) (length n.eqs)) refl
   where
-    f : ℕ
-    f = least n.eqs (suc x)
-
-    test : ℕ → Bool
-    test g = class_of (item n.eqs g) == suc x && not (g == least n.eqs (suc x))
-
-    go : (r : Option ℕ) → first (λ g. class_of (item n.eqs g) == suc x && not (g == least n.eqs (suc x))) (length n.eqs) ≡ r → Another n x
+    go : (r : Option ℕ) → first (is_another n x) (length n.eqs) ≡ r → Another n x
     go (Some g) e =
-        let found = first_from-passes (λ g. class_of (item n.eqs g) == suc x && not (g == least n.eqs (suc x))) (length n.eqs) 1 g e in
+        let found = first_from-passes (is_another n x) (length n.eqs) 1 g e in
         let at : g ≡ found.at = same_some found.found in
         let number : other n.eqs (suc x) (least n.eqs (suc x)) ≡ found.at = ap (λ r. unwrap_or r 0) e ∙ at in
         let parts = and_parts (class_of (item n.eqs found.at) == suc x) _ found.passes in
@@ -277,7 +289,8 @@ another n x c known = go (first test (length n.eqs)) refl
         let high = leb-true (least n.eqs (suc x)) (length n.eqs) (and_parts (nat_lt 0 (least n.eqs (suc x))) _ c.inside).1 in
         absurd (both_ways (is_settled n.eqs n.nes (suc x)) c.unsettled
         (settled-from n.eqs n.nes (suc x) (least n.eqs (suc x) - 1) (omega (arith, low, high)) c.class known (λ i w q.
-        elim (and_cases (class_of (item n.eqs (suc i)) == suc x) (not (suc i == least n.eqs (suc x))) (none-at (λ g. class_of (item n.eqs g) == suc x && not (g == least n.eqs (suc x))) (length n.eqs) i e w)) [
+        elim (and_cases (class_of (item n.eqs (suc i)) == suc x) (not (suc i == least n.eqs (suc x)))
+        (none-at (is_another n x) (length n.eqs) i e w)) [
           | inl a ↦ absurd (both_ways _ a (eq-eqb _ _ (ap class_of (item-next n.eqs i) ∙ q)))
           | inr b ↦ let s = eqb-true (suc i) (least n.eqs (suc x)) (negated _ b) in omega (arith, s)
         ])))
@@ -292,7 +305,7 @@ work-right version n x e =
     go c (has_known_initial n.nes (item n.eqs (least n.eqs (suc x)))) refl (has_polynomial n.eqs (primitive_initial (item n.eqs (least n.eqs (suc x))))) refl
   where
     reached : (c : Chosen n x) → Another n x
-        → nat_le (main_degree (item n.eqs (least n.eqs (suc x)))) (degree_at (main_place (item n.eqs (least n.eqs (suc x)))) (item n.eqs (other n.eqs (suc x) (least n.eqs (suc x))))) ≡ true
+        → reaches (item n.eqs (other n.eqs (suc x) (least n.eqs (suc x)))) (item n.eqs (least n.eqs (suc x))) ≡ true
     reached c a =
         let g = other n.eqs (suc x) (least n.eqs (suc x)) in
         let F = item n.eqs (least n.eqs (suc x)) in
@@ -316,7 +329,8 @@ work-right version n x e =
     go c true p m q =
         let f = least n.eqs (suc x) in
         let a = another n x c p in
-        ap (λ b. is_valid version n (if b then attempt.Red (other n.eqs (suc x) f) f else (if has_polynomial n.eqs (primitive_initial (item n.eqs f)) then attempt.Tail f else attempt.Split f))) p
+        let rest = if has_polynomial n.eqs (primitive_initial (item n.eqs f)) then attempt.Tail f else attempt.Split f in
+        ap (λ b. is_valid version n (if b then attempt.Red (other n.eqs (suc x) f) f else rest)) p
         ∙ and_from _ _ (and_from (has n.eqs (other n.eqs (suc x) f)) _ a.inside (and_from (has n.eqs f) _ c.inside a.apart))
         (and_from _ _ (nonconstant (item n.eqs f) x c.class) (and_from _ _ p (reached c a)))
     go c false p true q =
@@ -329,8 +343,7 @@ work-right version n x e =
         ∙ and_from (has n.eqs f) _ c.inside (nonconstant (item n.eqs f) x c.class)
 
 -- no rule is due: the system is triangular
-solved-right : (version : ℕ) (n : Node) → first (λ i. is_valid version n (attempt.Drop i)) (length n.eqs) ≡ None
-    → first (λ i. is_nonzero_constant (item n.eqs i)) (length n.eqs) ≡ None
+solved-right : (version : ℕ) (n : Node) → first (may_drop version n) (length n.eqs) ≡ None → first (may_close n) (length n.eqs) ≡ None
     → unsettled_class n ≡ 0 → is_triangular n.eqs n.nes ≡ true
 solved-right version n no_drop no_close settled =
     all-from (λ p. not (is_constant p) && is_settled n.eqs n.nes (class_of p)) n.eqs (λ i w.
@@ -343,49 +356,59 @@ solved-right version n no_drop no_close settled =
     settles true c n h = refl
     settles false c n h = absurd (n (omega (arith, h)))
 
-    -- no equation is a constant
+    -- no equation is 0, and none is another constant
+    no_zero : (i : ℕ) → i < length n.eqs → is_zero (get_or n.eqs i []) ≡ true → ⊥
+    no_zero i w t =
+        both_ways (is_valid version n (attempt.Drop (suc i))) (none-at (may_drop version n) (length n.eqs) i no_drop w)
+        (and_from (has n.eqs (suc i)) _ (has-from n.eqs (suc i) (omega arith) (omega arith))
+        (or_left (is_zero (item n.eqs (suc i))) _ (ap is_zero (item-next n.eqs i) ∙ t)))
+
+    no_number : (i : ℕ) → i < length n.eqs → is_nonzero_constant (get_or n.eqs i []) ≡ true → ⊥
+    no_number i w t =
+        both_ways (is_nonzero_constant (item n.eqs (suc i))) (none-at (may_close n) (length n.eqs) i no_close w)
+        (ap is_nonzero_constant (item-next n.eqs i) ∙ t)
+
     moves : (i : ℕ) → i < length n.eqs → is_constant (get_or n.eqs i []) ≡ false
     moves i w =
         elim (is_constant (get_or n.eqs i [])) as (λ b. is_constant (get_or n.eqs i []) ≡ b → b ≡ false) [
           | false ↦ λ e. refl
           | true ↦ λ e. elim (int_eq (number_of (get_or n.eqs i [])) (pos 0)) as (λ b. int_eq (number_of (get_or n.eqs i [])) (pos 0) ≡ b → true ≡ false) [
-            | true ↦ λ t. absurd (both_ways (is_valid version n (attempt.Drop (suc i))) (none-at (λ i. is_valid version n (attempt.Drop i)) (length n.eqs) i no_drop w)
-                (and_from (has n.eqs (suc i)) _ (has-from n.eqs (suc i) (omega arith) (omega arith)) (or_left (is_zero (item n.eqs (suc i))) _ (ap is_zero (item-next n.eqs i) ∙ and_from _ _ e t))))
-            | false ↦ λ t. absurd (both_ways (is_nonzero_constant (item n.eqs (suc i))) (none-at (λ i. is_nonzero_constant (item n.eqs i)) (length n.eqs) i no_close w)
-                (ap is_nonzero_constant (item-next n.eqs i) ∙ and_from _ _ e (not_from_false _ t)))
+            | true ↦ λ t. absurd (no_zero i w (and_from _ _ e t))
+            | false ↦ λ t. absurd (no_number i w (and_from _ _ e (not_from_false _ t)))
           ] refl
         ] refl
 
 pub next-right : (version : ℕ) (n : Node) → IsRight version n (next version n)
-next-right version n = drop_step (first (λ i. is_valid version n (attempt.Drop i)) (length n.eqs)) refl
+next-right version n = drop_step (first (may_drop version n) (length n.eqs)) refl
   where
-    class_step : first (λ i. is_valid version n (attempt.Drop i)) (length n.eqs) ≡ None → first (λ i. is_nonzero_constant (item n.eqs i)) (length n.eqs) ≡ None
-        → IsRight version n (unwrap_or (class_due n) work.Solved)
-    class_step d c =
-        elim (unsettled_class n) as (λ x. unsettled_class n ≡ x → IsRight version n (unwrap_or (elim x as (λ _. Option Next) [ zero ↦ None | suc x ↦ Some (work.Try (work_on n (suc x))) ]) work.Solved)) [
-          | zero ↦ λ e. solved-right version n d c e
-          | suc x ↦ λ e. work-right version n x e
-        ] refl
-
     inside : (test : ℕ → Bool) (i : ℕ) → first test (length n.eqs) ≡ Some i → (has n.eqs i ≡ true) × (test i ≡ true)
     inside test i e =
         let f = first_from-passes test (length n.eqs) 1 i e in
         let at : i ≡ f.at = ap (λ r. unwrap_or r 0) f.found in
         (ap (has n.eqs) at ∙ has-from n.eqs f.at f.low f.high, ap test at ∙ f.passes)
 
-    clash_step : (r : Option ℕ) → first (λ i. has_polynomial n.nes (item n.eqs i)) (length n.eqs) ≡ r
-        → first (λ i. is_valid version n (attempt.Drop i)) (length n.eqs) ≡ None → first (λ i. is_nonzero_constant (item n.eqs i)) (length n.eqs) ≡ None
+    class_step : first (may_drop version n) (length n.eqs) ≡ None → first (may_close n) (length n.eqs) ≡ None
+        → IsRight version n (unwrap_or (class_due n) work.Solved)
+    class_step d c =
+        elim (unsettled_class n) as (λ x. unsettled_class n ≡ x
+        → IsRight version n (unwrap_or (elim x as (λ _. Option Next) [ zero ↦ None | suc x ↦ Some (work.Try (work_on n (suc x))) ]) work.Solved)) [
+          | zero ↦ λ e. solved-right version n d c e
+          | suc x ↦ λ e. work-right version n x e
+        ] refl
+
+    clash_step : (r : Option ℕ) → first (may_clash n) (length n.eqs) ≡ r
+        → first (may_drop version n) (length n.eqs) ≡ None → first (may_close n) (length n.eqs) ≡ None
         → IsRight version n (unwrap_or (option_map (λ i. work.Clashed i (number_in n.nes (item n.eqs i))) r) (unwrap_or (class_due n) work.Solved))
-    clash_step (Some i) e d c = let h = inside (λ i. has_polynomial n.nes (item n.eqs i)) i e in clash-right version n i h.0 h.1
+    clash_step (Some i) e d c = let h = inside (may_clash n) i e in clash-right version n i h.0 h.1
     clash_step None e d c = class_step d c
 
-    close_step : (r : Option ℕ) → first (λ i. is_nonzero_constant (item n.eqs i)) (length n.eqs) ≡ r
-        → first (λ i. is_valid version n (attempt.Drop i)) (length n.eqs) ≡ None
+    close_step : (r : Option ℕ) → first (may_close n) (length n.eqs) ≡ r → first (may_drop version n) (length n.eqs) ≡ None
         → IsRight version n (unwrap_or (option_map work.Closed r) (unwrap_or (clash_due n) (unwrap_or (class_due n) work.Solved)))
-    close_step (Some i) e d = let h = inside (λ i. is_nonzero_constant (item n.eqs i)) i e in h
-    close_step None e d = clash_step (first (λ i. has_polynomial n.nes (item n.eqs i)) (length n.eqs)) refl d e
+    close_step (Some i) e d = inside (may_close n) i e
+    close_step None e d = clash_step (first (may_clash n) (length n.eqs)) refl d e
 
-    drop_step : (r : Option ℕ) → first (λ i. is_valid version n (attempt.Drop i)) (length n.eqs) ≡ r
-        → IsRight version n (unwrap_or (option_map (λ i. work.Try (attempt.Drop i)) r) (unwrap_or (close_due n) (unwrap_or (clash_due n) (unwrap_or (class_due n) work.Solved))))
-    drop_step (Some i) e = (inside (λ i. is_valid version n (attempt.Drop i)) i e).1
-    drop_step None e = close_step (first (λ i. is_nonzero_constant (item n.eqs i)) (length n.eqs)) refl e
+    drop_step : (r : Option ℕ) → first (may_drop version n) (length n.eqs) ≡ r
+        → IsRight version n (unwrap_or (option_map (λ i. work.Try (attempt.Drop i)) r)
+        (unwrap_or (close_due n) (unwrap_or (clash_due n) (unwrap_or (class_due n) work.Solved))))
+    drop_step (Some i) e = (inside (may_drop version n) i e).1
+    drop_step None e = close_step (first (may_close n) (length n.eqs)) refl e

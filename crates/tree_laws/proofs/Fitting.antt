@@ -23,6 +23,7 @@ use Rattle.proof_steps.specs.declared.step.Step.{Step}
 use Rattle.poly_model.specs.declared.limits.Reason.{Reason}
 use Rattle.poly_model.specs.declared.limits.Reason.TheVariants.{Fuel}
 use Rattle.poly_model.specs.Equality.{same-self}
+use Rattle.tree_laws.proofs.Unfold.{reason_by-none}
 
 pub same_path-self : (a : List Bool) → same_path a a ≡ true
 same_path-self [] = refl
@@ -42,18 +43,12 @@ int_eq-self z = (Decides-int_eq z z).1 refl
 -- ---- chains
 pub reason-fuel : (p f : Polynomial) (fuel : ℕ) → chain_reason p f fuel ≡ None → 1 + length (reduction_of p f).1 ≤ fuel
 reason-fuel p f fuel e =
-    elim (reduction_limit p f) as (λ r. (elim r as (λ _. Option Reason) [ Some w ↦ Some w | None ↦ if nat_lt fuel (1 + length (reduction_of p f).1) then Some Fuel else None ]) ≡ None → 1 + length (reduction_of p f).1 ≤ fuel) [
-      | Some w ↦ λ q. cc
-      | None ↦ λ q. ltb-false fuel (1 + length (reduction_of p f).1) (unmet (nat_lt fuel (1 + length (reduction_of p f).1)) q)
-    ] e
-  where
-    unmet : (b : Bool) → (if b then Some Fuel else None) ≡ None → b ≡ false
-    unmet true q = cc
-    unmet false q = refl
+    ltb-false fuel (1 + length (reduction_of p f).1) (reason_by-none (reduction_limit p f) (nat_lt fuel (1 + length (reduction_of p f).1)) e).1
 
 -- a chain by what is due fits, where the chain that goes on does
 due-fits : (more : ℕ → List Polynomial → ℕ → List ChainStep × LeafStatus) (E : List Polynomial) (k : ℕ) (ps : List Polynomial) (fuel : ℕ)
-    → ((j : ℕ) (p : Polynomial) (rest : List Polynomial) (left : ℕ) → left < fuel → chain_fits E j (p ∷ rest) left (more j (p ∷ rest) left).0 (more j (p ∷ rest) left).1 ≡ true)
+    → ((j : ℕ) (p : Polynomial) (rest : List Polynomial) (left : ℕ) → left < fuel
+    → chain_fits E j (p ∷ rest) left (more j (p ∷ rest) left).0 (more j (p ∷ rest) left).1 ≡ true)
     → (d : Due) → due_of E k ps ≡ d → chain_fits E k ps fuel (chain_due more E fuel d).0 (chain_due more E fuel d).1 ≡ true
 due-fits more E k ps fuel h chain.AllZero e = ap (λ d. status_fits E fuel d status.Proved) e
 due-fits more E k ps fuel h (chain.Left j p) e = ap (λ d. status_fits E fuel d (status.Remainder j p)) e ∙ and_from (j == j) _ (eq-eqb j j refl) (same-self p)
@@ -69,7 +64,10 @@ due-fits more E k ps fuel h (chain.Reduce j f p rest) e = stopped (chain_reason 
         let paid = reason-fuel p (item E f) fuel q in
         let c = more j (r.1 ∷ rest) (fuel - (1 + length r.1)) in
         ap (step_due E fuel (record { k = j; f = f; m = r.0; r = r.1 }) (λ j rest left. chain_fits E j rest left c.0 c.1)) e
-        ∙ and_from _ _ (and_from _ _ (and_from _ _ (and_from (j == j) _ (eq-eqb j j refl) (eq-eqb f f refl)) (and_from (int_eq r.0 r.0) _ (int_eq-self r.0) (same-self r.1))) (same_reason-is _ _ q))
+        ∙ and_from _ _
+        (and_from _ _
+        (and_from _ _ (and_from (j == j) _ (eq-eqb j j refl) (eq-eqb f f refl)) (and_from (int_eq r.0 r.0) _ (int_eq-self r.0) (same-self r.1)))
+        (same_reason-is _ _ q))
         (h j r.1 rest (fuel - (1 + length r.1)) (omega (arith, paid)))
 
 pub chain-fits : (n : ℕ) (E : List Polynomial) (k : ℕ) (ps : List Polynomial) (fuel : ℕ) → fuel < n
@@ -77,7 +75,8 @@ pub chain-fits : (n : ℕ) (E : List Polynomial) (k : ℕ) (ps : List Polynomial
 unfolding chain_within
 chain-fits zero E k ps fuel below = absurd (omega arith)
 chain-fits (suc n) E k ps fuel below =
-    due-fits (λ j rest left. chain_within n E j rest left) E k ps fuel (λ j p rest left less. chain-fits n E j (p ∷ rest) left (omega arith)) (due_of E k ps) refl
+    due-fits (λ j rest left. chain_within n E j rest left) E k ps fuel (λ j p rest left less. chain-fits n E j (p ∷ rest) left (omega arith))
+    (due_of E k ps) refl
 
 -- ---- pieces that fit
 outcome-with_step : (version : ℕ) (cons : List Polynomial) (m : Node) (s : Step) (p : Piece) (x : Outcome)

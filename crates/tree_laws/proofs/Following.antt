@@ -101,7 +101,8 @@ pub record First (version : ℕ) (cons : List Polynomial) (n : Node) (ns : List 
 pub first-of : (version : ℕ) (cons : List Polynomial) (n : Node) (ns : List Node) (p : Piece) (ps : List Piece)
     → are_trees version cons (n ∷ ns) (p ∷ ps) ≡ true → First version cons n ns p ps
 first-of version cons n ns p ps h =
-    elim (follow version cons n p) as (λ r. follow version cons n p ≡ r → (elim r as (λ _. Bool) [ None ↦ false | Some ms ↦ are_trees version cons (ms ++ ns) ps ]) ≡ true → First version cons n ns p ps) [
+    elim (follow version cons n p) as (λ r. follow version cons n p ≡ r
+    → (elim r as (λ _. Bool) [ None ↦ false | Some ms ↦ are_trees version cons (ms ++ ns) ps ]) ≡ true → First version cons n ns p ps) [
       | None ↦ λ e q. cc
       | Some ms ↦ λ e q. record { nodes = ms; follows = e; trees = q }
     ] refl h

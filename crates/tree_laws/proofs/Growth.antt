@@ -16,7 +16,8 @@ use Rattle.tree_laws.proofs.Worked.{fit-more, worked}
 
 -- ---- trees
 forest-fits : (k version : ℕ) (cons : List Polynomial)
-    → ((m : Node) (ns : List Node) (ps : List Piece) → m.fuel ≤ k → size_of m ≤ m.fuel → are_trees version cons (m ∷ ns) (tree_within k version cons m ++ ps) ≡ are_trees version cons ns ps)
+    → ((m : Node) (ns : List Node) (ps : List Piece) → m.fuel ≤ k → size_of m ≤ m.fuel
+    → are_trees version cons (m ∷ ns) (tree_within k version cons m ++ ps) ≡ are_trees version cons ns ps)
     → (ms : List Node) (ns : List Node) (ps : List Piece) → HaveLess (suc k) ms
     → are_trees version cons (ms ++ ns) (flat_map (λ m. tree_within k version cons m) ms ++ ps) ≡ are_trees version cons ns ps
 forest-fits k version cons h [] ns ps a = refl
@@ -32,14 +33,18 @@ tree-fits zero version cons n ns ps low enough = absurd (let s = size-some n in 
 tree-fits (suc k) version cons n ns ps low enough =
     let w = worked n.fuel version cons n (omega arith) enough in
     let ms = (expansion_of version cons n).1 in
-    ap (λ r. elim r as (λ _. Bool) [ None ↦ false | Some ms ↦ are_trees version cons (ms ++ ns) (flat_map (λ m. tree_within k version cons m) (expansion_of version cons n).1 ++ ps) ]) w.follows
+    ap (λ r. elim r as (λ _. Bool) [
+      | None ↦ false
+      | Some ms ↦ are_trees version cons (ms ++ ns) (flat_map (λ m. tree_within k version cons m) (expansion_of version cons n).1 ++ ps)
+    ]) w.follows
     ∙ forest-fits k version cons (λ m ns ps less fits. tree-fits k version cons m ns ps less fits) ms ns ps (fit-more n.fuel (suc k) ms low w.smaller)
 
 pub trees-valid : TreesAreValid
 trees-valid version problem fuel enough =
     let root = root_of problem fuel in
     and_from (nat_le (size_of root) fuel) _ (le-leb (size_of root) fuel enough)
-    (ap (are_trees version problem.cons (root ∷ [])) (sym (append-nil (tree_of version problem fuel))) ∙ tree-fits fuel version problem.cons root [] [] (omega arith) enough)
+    (ap (are_trees version problem.cons (root ∷ [])) (sym (append-nil (tree_of version problem fuel)))
+    ∙ tree-fits fuel version problem.cons root [] [] (omega arith) enough)
 
 -- ---- any number that the fuel does not pass gives the same tree
 forest-same : (k l version : ℕ) (cons : List Polynomial)
@@ -59,7 +64,8 @@ tree-same (suc k) (suc l) version cons n low high enough =
     let w = worked n.fuel version cons n (omega arith) enough in
     let ms = (expansion_of version cons n).1 in
     ap (λ t. (expansion_of version cons n).0 ∷ t)
-    (forest-same k l version cons (λ m a b c. tree-same k l version cons m a b c) ms (fit-more n.fuel (suc k) ms low w.smaller) (fit-more n.fuel (suc l) ms high w.smaller))
+    (forest-same k l version cons (λ m a b c. tree-same k l version cons m a b c) ms (fit-more n.fuel (suc k) ms low w.smaller)
+    (fit-more n.fuel (suc l) ms high w.smaller))
 
 forest-at : (k version : ℕ) (cons : List Polynomial) (ms : List Node) → HaveLess (suc k) ms
     → flat_map (λ m. tree_within k version cons m) ms ≡ flat_map (λ m. tree_at version cons m) ms

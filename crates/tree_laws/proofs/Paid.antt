@@ -26,7 +26,7 @@ use Rattle.proof_steps.specs.declared.step.Attempt.TheVariants as attempt
 use Rattle.proof_steps.specs.declared.step.Step.{Step}
 use Rattle.proof_steps.specs.declared.step.Step.TheVariants as step
 use Rattle.tree_laws.specs.Costs.{step_cost, steps_cost, chain_cost, listed_cost, outcome_cost, pieces_cost, total_fuel, HaveFuel, FuelPays, TreesArePaid, ReasonsAreRight}
-use Rattle.tree_laws.proofs.Unfold.{size-some, not-short, holds-size, one-short}
+use Rattle.tree_laws.proofs.Unfold.{reason_by, size-some, not-short, holds-size, one-short}
 use Rattle.tree_laws.proofs.Fitting.{reason-fuel}
 use Rattle.tree_laws.proofs.Following.{same_list-is, fits, none-reason, step-fits, steps-cons, first-of}
 
@@ -197,9 +197,6 @@ not-any (m ∷ ms) h = or_from (is_short m) (list_any is_short ms) (long (nat_lt
     long false e = refl
     long true e = let below = ltb-true m.fuel (size_of m) e in let enough = h.0 in absurd (omega (arith, below, enough))
 
-abbrev reason_by : Option Reason → Bool → Option Reason
-reason_by limit short = elim limit [ Some r ↦ Some r | None ↦ if short then Some Fuel else None ]
-
 some-apart : (why : Reason) → None ≡ Some why → ⊥
 some-apart why q = cc
 
@@ -215,8 +212,10 @@ reasons-are-right version n a = (first, short, free)
 
     short : limit_of version n a ≡ None
         → ((HaveFuel (made version n a) → ⊥) → reason_of version n a ≡ Some Fuel) × (reason_of version n a ≡ Some Fuel → HaveFuel (made version n a) → ⊥)
-    short e =
-        (wanting (list_any is_short (made version n a)) refl, λ q h. some-apart Fuel (sym (unmet e ∙ ap (λ b. if b then Some Fuel else None) (not-any (made version n a) h)) ∙ q))
+    short e = (
+      wanting (list_any is_short (made version n a)) refl,
+      λ q h. some-apart Fuel (sym (unmet e ∙ ap (λ b. if b then Some Fuel else None) (not-any (made version n a) h)) ∙ q),
+    )
       where
         wanting : (b : Bool) → list_any is_short (made version n a) ≡ b → (HaveFuel (made version n a) → ⊥) → reason_of version n a ≡ Some Fuel
         wanting true t h = unmet e ∙ ap (λ b. if b then Some Fuel else None) t

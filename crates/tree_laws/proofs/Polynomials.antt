@@ -23,6 +23,7 @@ use Rattle.proof_steps.specs.Numbers.{item, without_place}
 use Rattle.proof_steps.specs.Reasons.{limit_met}
 use Rattle.proof_steps.specs.Rules.{reduction_limit}
 use Rattle.proof_steps.specs.Chain.{chain_reason}
+use Rattle.tree_laws.proofs.Unfold.{reason_by-none}
 use Rattle.tree_laws.specs.Ranges.{IsMultiplier, IsPolynomial}
 
 -- ---- lists of polynomials
@@ -109,8 +110,4 @@ reduced-within n g f hg hf free = by (bounded_reduction g f) refl free
 
 -- a reduction of a conclusion that nothing stops meets no limit
 pub chain-free : (p f : Polynomial) (fuel : ℕ) → chain_reason p f fuel ≡ None → reduction_limit p f ≡ None
-chain-free p f fuel e =
-    elim (reduction_limit p f) as (λ r. (elim r as (λ _. Option Reason) [ Some w ↦ Some w | None ↦ if nat_lt fuel (1 + length (reduction_of p f).1) then Some Fuel else None ]) ≡ None → r ≡ None) [
-      | Some w ↦ λ q. cc
-      | None ↦ λ q. refl
-    ] e
+chain-free p f fuel e = (reason_by-none (reduction_limit p f) (nat_lt fuel (1 + length (reduction_of p f).1)) e).0

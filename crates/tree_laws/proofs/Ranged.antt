@@ -246,7 +246,8 @@ chain-within n m k todo fuel (c ∷ cs) s r low few all h =
         let told = subst (IsPolynomial n) (sym result) made.result in
         let above = i.0 in
         let within = i.1 in
-        let others = more j rest (fuel - (1 + length c.r)) (omega (arith, low, above)) (omega (arith, within, few)) (All-cons (IsPolynomial n) c.r rest told i.4) a.1 in
+        let all = All-cons (IsPolynomial n) c.r rest told i.4 in
+        let others = more j rest (fuel - (1 + length c.r)) (omega (arith, low, above)) (omega (arith, within, few)) all a.1 in
         record {
           told = All-cons (IsChainStep n) c cs (
             subst IsConclusion (sym number) (conclusion-there k j (length todo) low few above (omega (arith, within))),
@@ -345,8 +346,9 @@ listed-none n m p h =
 listed-within : (version n : ℕ) (cons : List Polynomial) (m : Node) (p : Piece) (x : Outcome) → IsNode n m → outcome_fits version cons m p x ≡ true
     → Listed n p.eqs p.nes m
 listed-within version n cons m p (outcome.Split f initial) r h =
-    let a = and_parts (is_valid version m (attempt.Split f) && same_reason (reason_of version m (attempt.Split f)) None) (same initial (primitive_initial (item m.eqs f)) && lists_none p) h in
-    listed-none n m p (and_parts (same initial (primitive_initial (item m.eqs f))) (lists_none p) a.1).1
+    let J = primitive_initial (item m.eqs f) in
+    let a = and_parts (is_valid version m (attempt.Split f) && same_reason (reason_of version m (attempt.Split f)) None) (same initial J && lists_none p) h in
+    listed-none n m p (and_parts (same initial J) (lists_none p) a.1).1
 listed-within version n cons m p (outcome.Close i) r h = listed-none n m p (and_parts (has m.eqs i && is_nonzero_constant (item m.eqs i)) (lists_none p) h).1
 listed-within version n cons m p (outcome.Clash i j) r h =
     listed-none n m p (and_parts (has m.eqs i && (has m.nes j && same (item m.eqs i) (item m.nes j))) (lists_none p) h).1
@@ -408,4 +410,5 @@ trees-within version n problem fuel ps w h =
       eqs = w.hyps;
       nes = All-nil (IsPolynomial n);
     } in
-    pieces-within version n problem.cons ps (root_of problem fuel ∷ []) w.conclusions w.cons (root, tt) (and_parts (nat_le (size_of (root_of problem fuel)) fuel) _ h).1
+    pieces-within version n problem.cons ps (root_of problem fuel ∷ []) w.conclusions w.cons (root, tt)
+    (and_parts (nat_le (size_of (root_of problem fuel)) fuel) _ h).1

@@ -91,7 +91,8 @@ no_letter_left : expansion_of 1 [] (edge (replicate MOST_LETTERS plus) MOST_FUEL
 unfolding expansion_within
 no_letter_left = refl
 
-no_fuel_left : expansion_of 1 [] (edge [] 6) ≡ (record { path = []; steps = []; eqs = u1*x1 ∷ []; nes = []; outcome = outcome.Open reason.Fuel (attempt.Split 1) }, [])
+no_fuel_left : expansion_of 1 [] (edge [] 6)
+    ≡ (record { path = []; steps = []; eqs = u1*x1 ∷ []; nes = []; outcome = outcome.Open reason.Fuel (attempt.Split 1) }, [])
 unfolding expansion_within
 no_fuel_left = refl
 
@@ -102,6 +103,7 @@ fuel_is_parted = refl
 abbrev steep : Node
 steep = record { path = []; eqs = u1^40*x1+1 ∷ u1^30*x1 ∷ []; nes = u1^30 ∷ []; fuel = 1000 }
 
-degree_is_met : expansion_of 1 [] steep ≡ (record { path = []; steps = []; eqs = steep.eqs; nes = steep.nes; outcome = outcome.Open reason.Degree (attempt.Red 1 2) }, [])
+degree_is_met : expansion_of 1 [] steep
+    ≡ (record { path = []; steps = []; eqs = steep.eqs; nes = steep.nes; outcome = outcome.Open reason.Degree (attempt.Red 1 2) }, [])
 unfolding reduction_limit expansion_within
 degree_is_met = refl

@@ -19,16 +19,17 @@ use Rattle.poly_model.specs.declared.limits.Reason.TheVariants.{Fuel}
 pub size-some : (n : Node) → 4 ≤ size_of n
 size-some n = omega arith
 
+-- the reason by the limit that is met, and by whether fuel is short
+abbrev pub reason_by : Option Reason → Bool → Option Reason
+reason_by limit short = elim limit [ Some r ↦ Some r | None ↦ if short then Some Fuel else None ]
+
+pub reason_by-none : (limit : Option Reason) (short : Bool) → reason_by limit short ≡ None → (limit ≡ None) × (short ≡ false)
+reason_by-none (Some why) short q = cc
+reason_by-none None true q = cc
+reason_by-none None false q = (refl, refl)
+
 pub not-short : (version : ℕ) (n : Node) (a : Attempt) → reason_of version n a ≡ None → list_any is_short (made version n a) ≡ false
-not-short version n a e =
-    elim (limit_of version n a) as (λ r. (elim r as (λ _. Option Reason) [ Some w ↦ Some w | None ↦ if list_any is_short (made version n a) then Some Fuel else None ]) ≡ None → list_any is_short (made version n a) ≡ false) [
-      | Some w ↦ λ q. cc
-      | None ↦ λ q. unmet (list_any is_short (made version n a)) q
-    ] e
-  where
-    unmet : (b : Bool) → (if b then Some Fuel else None) ≡ None → b ≡ false
-    unmet true q = cc
-    unmet false q = refl
+not-short version n a e = (reason_by-none (limit_of version n a) (list_any is_short (made version n a)) e).1
 
 pub holds-size : (m : Node) → is_short m ≡ false → size_of m ≤ m.fuel
 holds-size m h = ltb-false m.fuel (size_of m) h
@@ -144,7 +145,8 @@ pub by_reason : (version : ℕ) (cons : List Polynomial) (n here : Node) (steps 
     → work.Try a ≡ next version here → reason_of version here a ≡ r → IsRest version cons n steps (expansion_tried (more version cons) version here a r)
 by_reason version cons n here steps a r w q e =
     rest version cons n here steps w _
-    (expansion-is version cons here w.enough ∙ ap (expansion_by (more version cons) version cons here) (sym q) ∙ ap (expansion_tried (more version cons) version here a) e)
+    (expansion-is version cons here w.enough ∙ ap (expansion_by (more version cons) version cons here) (sym q)
+    ∙ ap (expansion_tried (more version cons) version here a) e)
 
 pub by_record : (version : ℕ) (cons : List Polynomial) (n here : Node) (steps : List Step) (a : Attempt) (r : Recorded) → Whole version cons n here steps
     → work.Try a ≡ next version here → reason_of version here a ≡ None → recorded_as here a ≡ r

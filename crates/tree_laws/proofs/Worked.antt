@@ -71,7 +71,8 @@ worked (suc k) version cons n low enough = by (next version n) (next-right versi
     recorded more (attempt.Tail f) valid free =
         let fits = one-short (cut n f) (not-short version n (attempt.Tail f) free) in
         let some = size-some (cut n f) in
-        stepping version cons n (step.Tail f (primitive_tail (item n.eqs f))) _ valid free (same-self (primitive_tail (item n.eqs f))) refl (omega arith) (more (cut n f) (omega (arith, fits, some, low)) fits)
+        let T = primitive_tail (item n.eqs f) in
+        stepping version cons n (step.Tail f T) _ valid free (same-self T) refl (omega arith) (more (cut n f) (omega (arith, fits, some, low)) fits)
     recorded more (attempt.Split f) valid free =
         let J = primitive_initial (item n.eqs f) in
         let rest = replaced n.eqs f (primitive_tail (item n.eqs f)) ++ J ∷ [] in
@@ -80,9 +81,9 @@ worked (suc k) version cons n low enough = by (next version n) (next-right versi
         let minus = one-short (minus_child n J rest) short.1 in
         let some = size-some (plus_child n J n.eqs rest) in
         record {
-          follows = follow-bare version cons n (outcome.Split f (primitive_initial (item n.eqs f)))
-              (and_from _ _ (and_from (is_valid version n (attempt.Split f)) _ valid (same_reason-is _ _ free)) (and_from (same (primitive_initial (item n.eqs f)) (primitive_initial (item n.eqs f))) _ (same-self (primitive_initial (item n.eqs f))) refl));
-          smaller = ((omega (arith, plus, some)), plus, ((omega (arith, plus, some)), minus, tt));
+          follows = follow-bare version cons n (outcome.Split f J)
+              (and_from _ _ (and_from (is_valid version n (attempt.Split f)) _ valid (same_reason-is _ _ free)) (and_from (same J J) _ (same-self J) refl));
+          smaller = (omega (arith, plus, some), plus, (omega (arith, plus, some), minus, tt));
           total = omega (arith, plus, some);
         }
 
@@ -90,7 +91,8 @@ worked (suc k) version cons n low enough = by (next version n) (next-right versi
         → Worked version cons n (expansion_tried (λ m. expansion_within k version cons m) version n a r)
     tried more a valid (Some why) q = record {
       follows =
-          follow-listing version cons n (outcome.Open why a) (and_from _ _ (and_from (is_valid version n a) _ valid (same_reason-is _ _ q)) (listed-self n (outcome.Open why a)));
+          follow-listing version cons n (outcome.Open why a)
+          (and_from _ _ (and_from (is_valid version n a) _ valid (same_reason-is _ _ q)) (listed-self n (outcome.Open why a)));
       smaller = tt;
       total = (let s = size-some n in omega (arith, s, enough));
     }
@@ -99,15 +101,25 @@ worked (suc k) version cons n low enough = by (next version n) (next-right versi
     by : (x : Next) → IsRight version n x → Works k version cons
         → Worked version cons n (expansion_by (λ m. expansion_within k version cons m) version cons n x)
     by (work.Closed i) r more =
-        record { follows = follow-bare version cons n (outcome.Close i) (and_from _ _ (and_from (has n.eqs i) _ r.0 r.1) refl); smaller = tt; total = (let s = size-some n in omega (arith, s, enough)) }
+        record {
+          follows = follow-bare version cons n (outcome.Close i) (and_from _ _ (and_from (has n.eqs i) _ r.0 r.1) refl);
+          smaller = tt;
+          total = (let s = size-some n in omega (arith, s, enough));
+        }
     by (work.Clashed i j) r more =
-        record { follows = follow-bare version cons n (outcome.Clash i j) (and_from _ _ (and_from (has n.eqs i) _ r.0 (and_from (has n.nes j) _ r.1 r.2)) refl); smaller = tt; total = (let s = size-some n in omega (arith, s, enough)) }
+        record {
+          follows = follow-bare version cons n (outcome.Clash i j) (and_from _ _ (and_from (has n.eqs i) _ r.0 (and_from (has n.nes j) _ r.1 r.2)) refl);
+          smaller = tt;
+          total = (let s = size-some n in omega (arith, s, enough));
+        }
     by work.Solved r more =
         let left = n.fuel - size_of n in
         let c = chain_of n.eqs cons left in
         record {
           follows =
-              follow-listing version cons n (outcome.System c.0 c.1) (and_from _ _ (and_from (is_triangular n.eqs n.nes) _ r (chain-fits (suc left) n.eqs 1 cons left (omega arith))) (listed-self n (outcome.System c.0 c.1)));
+              follow-listing version cons n (outcome.System c.0 c.1)
+              (and_from _ _ (and_from (is_triangular n.eqs n.nes) _ r (chain-fits (suc left) n.eqs 1 cons left (omega arith)))
+              (listed-self n (outcome.System c.0 c.1)));
           smaller = tt;
           total = (let s = size-some n in omega (arith, s, enough));
         }
