@@ -21,7 +21,6 @@ use Rattle.proof_steps.specs.declared.piece.Outcome.{Outcome}
 use Rattle.proof_steps.specs.declared.piece.Outcome.TheVariants as outcome
 use Rattle.proof_steps.specs.declared.step.Step.{Step}
 use Rattle.poly_model.specs.declared.limits.Reason.{Reason}
-use Rattle.poly_model.specs.declared.limits.Reason.TheVariants.{Fuel}
 use Rattle.poly_model.specs.Equality.{same-self}
 use Rattle.tree_laws.proofs.Unfold.{reason_by-none}
 

@@ -10,6 +10,8 @@ pub mod Worked
 pub mod Growth
 -- what the fuel pays for
 pub mod Paid
+-- what pieces tell
+pub mod Left
 -- what is within the limits
 pub mod Polynomials
 pub mod Chains

@@ -1,6 +1,6 @@
 -- What the rules make of polynomials within the limits is within them, over the same variables, and so are multipliers.
 use Rattle.std.proofs.Common.{◌≡◌, ◌≢◌, ℕ, ◌+◌, ◌-◌, ◌<◌, zero, suc, List, [], ◌∷◌, ◌++◌, length, get_or, refl, ◌∙◌, subst, arith, Bool, true, false}
-use Rattle.std.specs.Prelude.{ℤ, pos, negsuc, unsigned_abs, Option, Some, None, Result, Ok, Err, nat_lt, All, if◌then◌else◌}
+use Rattle.std.specs.Prelude.{ℤ, pos, negsuc, unsigned_abs, None, Result, Ok, Err, nat_lt, All}
 use Rattle.std.proofs.lemmas.Bool.{and_parts, leb-true}
 use Rattle.std.proofs.lemmas.Nat.Gcd.{le_of_dvd}
 use Rattle.std.proofs.lemmas.List.Elements.{All-nil, All-cons, All-append}
@@ -11,8 +11,6 @@ use Rattle.poly_model.specs.Reduction.{main_place, main_degree, initial_of, tail
 use Rattle.poly_model.specs.Bounded.{bounded_reduction}
 use Rattle.poly_model.specs.declared.limits.TheConstants.{MOST_VARIABLES, MOST_SIZE}
 use Rattle.poly_model.specs.declared.limits.Limit.{Limit}
-use Rattle.poly_model.specs.declared.limits.Reason.{Reason}
-use Rattle.poly_model.specs.declared.limits.Reason.TheVariants.{Fuel}
 use Rattle.poly_model.proofs.Contents.{gcd-is}
 use Rattle.poly_model.proofs.Primitive.{divisor_some}
 use Rattle.poly_model.proofs.Over.{over-primitive_part, over-initial, over-without, over-reduction}

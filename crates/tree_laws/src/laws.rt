@@ -3,7 +3,7 @@ ghost use Rattle.proof_steps.specs.Work.{next};
 ghost use Rattle.proof_steps.specs.declared.piece.Node.{Node};
 ghost use Rattle.tree_laws.specs.Due.{IsRight};
 ghost use Rattle.tree_laws.specs.Costs.{FuelPays, ReasonsAreRight, TreesArePaid, WorkFollows};
-ghost use Rattle.tree_laws.specs.Growth.{TreesAreValid, TreesUnfold};
+ghost use Rattle.tree_laws.specs.Growth.{TreesAreValid, TreesTellWhatIsLeft, TreesUnfold};
 ghost use Rattle.tree_laws.specs.Ranges.{TreesAreWithinLimits};
 
 /// What is due at a node is right there: the rule that is tried is valid, the equation that closes the node is a number
@@ -44,4 +44,10 @@ pub fn reasons_are_right()
 /// within them too, and no other variables occur: what a log needs to write the tree.
 pub fn trees_are_within_limits()
     ensures { TreesAreWithinLimits }
+{}
+
+/// In a valid tree, whoever made it, each remainder is what the chain leaves of its conclusion, and nothing is listed but
+/// at systems and open leaves: a text that leaves these out tells the tree whole.
+pub fn trees_tell_what_is_left()
+    ensures { TreesTellWhatIsLeft }
 {}
