@@ -6,3 +6,4 @@ pub mod Chain
 pub mod Work
 pub mod Trees
 pub mod Leaves
+pub mod Left
