@@ -23,7 +23,7 @@ use Rattle.proof_steps.specs.declared.piece.Outcome.TheVariants as outcome
 use Rattle.proof_steps.specs.declared.piece.Piece.{Piece}
 use Rattle.proof_steps.specs.declared.step.Attempt.TheVariants as attempt
 use Rattle.tree_laws.specs.Growth.{TreesTellWhatIsLeft}
-use Rattle.tree_laws.proofs.Following.{same_list-is, fits, first-of}
+use Rattle.proof_steps.proofs.Following.{same_list-is, fits, first-of}
 
 -- ---- where a list goes on from a place
 drop-get : (n : ℕ) (ps : List Polynomial) (p : Polynomial) (rest : List Polynomial) → drop n ps ≡ p ∷ rest → get_or ps n [] ≡ p

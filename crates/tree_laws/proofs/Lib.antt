@@ -4,7 +4,6 @@ pub mod Due
 pub mod Unfold
 -- what fits a node
 pub mod Fitting
-pub mod Following
 -- the tree of a problem
 pub mod Worked
 pub mod Growth

@@ -28,7 +28,7 @@ use Rattle.proof_steps.specs.declared.step.Step.TheVariants as step
 use Rattle.tree_laws.specs.Costs.{step_cost, steps_cost, chain_cost, listed_cost, outcome_cost, pieces_cost, total_fuel, HaveFuel, FuelPays, TreesArePaid, ReasonsAreRight}
 use Rattle.tree_laws.proofs.Unfold.{reason_by, size-some, not-short, holds-size, one-short}
 use Rattle.tree_laws.proofs.Fitting.{reason-fuel}
-use Rattle.tree_laws.proofs.Following.{same_list-is, fits, none-reason, step-fits, steps-cons, first-of}
+use Rattle.proof_steps.proofs.Following.{same_list-is, fits, none-reason, step-fits, steps-cons, first-of}
 
 pub have-append : (ms ns : List Node) → HaveFuel ms → HaveFuel ns → HaveFuel (ms ++ ns)
 have-append [] ns a b = b

@@ -30,7 +30,7 @@ use Rattle.proof_steps.specs.declared.step.Attempt.TheVariants as attempt
 use Rattle.proof_steps.specs.declared.step.Step.{Step}
 use Rattle.proof_steps.specs.declared.step.Step.TheVariants as step
 use Rattle.tree_laws.specs.Ranges.{IsEquation, IsCondition, IsConclusion, IsMultiplier, IsPolynomial, IsAttempt, IsStep, IsChainStep, IsStatus, IsOutcome, IsPiece, TreesAreWithinLimits}
-use Rattle.tree_laws.proofs.Following.{same_list-is, fits, none-reason, StepFits, step-fits, steps-cons, first-of}
+use Rattle.proof_steps.proofs.Following.{same_list-is, fits, none-reason, StepFits, step-fits, steps-cons, first-of}
 use Rattle.tree_laws.proofs.Paid.{reasons-are-right}
 use Rattle.tree_laws.proofs.Polynomials.{item-polynomial, without-polynomials, more-polynomials, initial-polynomial, tail-polynomial, reduced-within, chain-free}
 use Rattle.tree_laws.proofs.Chains.{Stands, stands}
