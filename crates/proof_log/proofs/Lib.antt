@@ -1,2 +1,5 @@
 pub mod Bytes
 pub mod OneLog
+pub mod Fields
+pub mod OneLine
+pub mod OneText
