@@ -3,3 +3,5 @@ pub mod OneLog
 pub mod Fields
 pub mod OneLine
 pub mod OneText
+pub mod ShortTerms
+pub mod Short

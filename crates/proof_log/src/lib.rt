@@ -6,7 +6,7 @@ mod limits;
 mod line;
 mod log;
 
-pub use laws::texts_are_unique;
+pub use laws::{texts_are_short, texts_are_unique};
 pub use limits::{MOST_INDEX, MOST_PROOFS, VERSION};
 pub use line::{LineWord, LogLine};
 pub use log::{Log, Proof};
