@@ -1,5 +1,6 @@
 -- How long the lines of a log are.
-use Rattle.std.proofs.Common.{◌≡◌, ℕ, ◌+◌, ◌*◌, ◌≤◌, List, [], ◌∷◌, ◌++◌, length, arith, Bool, true, false, length-append, length-map}
+use Rattle.std.proofs.Common.{◌≡◌, ℕ, ◌+◌, ◌*◌, ◌≤◌, List, [], ◌∷◌, ◌++◌, length, arith, Bool, true, false, length-append}
+use Rattle.std.proofs.lemmas.List.{length-map}
 use Rattle.std.specs.Prelude.{ℤ, decimal, unsigned_abs, codes}
 use Rattle.std.specs.List.{flat_map}
 use Rattle.poly_model.specs.Polynomial.{Polynomial}
@@ -56,7 +57,7 @@ field-short (Proofs n) fits = small-decimal 3 n (omega arith) (omega (arith, fit
 field-short (Conclusion k) fits = let a = fits.1 in small-decimal 3 k (omega arith) (omega (arith, a)) (omega (arith, a))
 field-short (Index i) fits = let a = fits.1 in small-decimal 3 i (omega arith) (omega (arith, a)) (omega (arith, a))
 field-short (Multiplier m) fits = multiplier-short m fits
-field-short (Letters path) fits = omega (arith, fits, length-map letter_text path)
+field-short (Letters path) fits = omega (arith, fits, length-map path letter_text)
 field-short (Why r) fits = why-short r
 
 fields-short : (fs : List Field) → FitFields fs → length (fields_text fs) ≤ fields_most fs

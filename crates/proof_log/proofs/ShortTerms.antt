@@ -1,5 +1,5 @@
 -- How long the text of a polynomial is.
-use Rattle.std.proofs.Common.{◌≡◌, ℕ, ◌+◌, ◌*◌, ◌^◌, ◌<◌, ◌≤◌, zero, suc, List, [], ◌∷◌, ◌++◌, length, ap, arith, Bool, true, false, cond, ◌==◌, nat_le, nat_eq, length-append}
+use Rattle.std.proofs.Common.{◌≡◌, ℕ, ◌+◌, ◌*◌, ◌^◌, ◌<◌, ◌≤◌, zero, suc, List, [], ◌∷◌, ◌++◌, length, arith, Bool, true, false, cond, ◌==◌, nat_le, nat_eq, length-append}
 use Rattle.std.specs.Prelude.{decimal, unsigned_abs, codes}
 use Rattle.std.proofs.lemmas.Fmt.{length-decimal-le_wide}
 use Rattle.std.proofs.lemmas.Bool.{eqb-true}
