@@ -3,9 +3,11 @@
 #![tactic(auto)]
 
 mod answers;
+mod arrange;
 mod book;
 mod event;
 mod find;
+pub mod laws;
 
 pub use answers::{Gone, Idle, PathState, Unsplit};
 pub use book::Book;
