@@ -118,7 +118,7 @@ weight-divided s m [] = omega arith
 weight-divided s m ((es, c) ∷ p) = omega (arith, abs-signed s (quotient_of c m), abs-quotient c m, weight-divided s m p)
 
 -- Lengths.
-length-with_entry : (es : List ℕ) (c : ℤ) (p : Polynomial) → length (with_entry es c p) ≤ suc (length p)
+pub length-with_entry : (es : List ℕ) (c : ℤ) (p : Polynomial) → length (with_entry es c p) ≤ suc (length p)
 length-with_entry es (pos zero) p = omega arith
 length-with_entry es (pos (suc n)) p = omega arith
 length-with_entry es (negsuc n) p = omega arith
@@ -168,7 +168,7 @@ above_test e ((fs, c) ∷ p) a = ap is_gt a.0
 eq_true : (a b : ℕ) → a ≡ b → nat_eq a b ≡ true
 eq_true a b e = grind (arith, nat_tests)
 
-le_true : (a b : ℕ) → a ≤ b → nat_le a b ≡ true
+pub le_true : (a b : ℕ) → a ≤ b → nat_le a b ≡ true
 le_true a b le = grind (arith, nat_tests)
 
 lt_true : (a b : ℕ) → a < b → nat_lt a b ≡ true

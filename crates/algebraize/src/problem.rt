@@ -1,9 +1,10 @@
 // The problem of a prove.
-ghost use Rattle.std.specs.Prelude.{IsTrue, ◌≡◌, ◌<◌, IfOk, OnOk, map};
+ghost use Rattle.std.specs.Prelude.{All, IsTrue, ◌≡◌, ◌<◌, IfOk, OnOk, map};
 ghost use Rattle.std.specs.List.{list_all};
 ghost use Rattle.gcl_names.specs.Sound.{IsSound};
 ghost use Rattle.gcl_reader.specs.Grammar.{Gives};
 ghost use Rattle.poly_model.specs.Content.{primitive_part};
+ghost use Rattle.proof_steps.specs.Stated.{IsStated};
 ghost use Rattle.algebraize.specs.Equations.{polynomials};
 ghost use Rattle.algebraize.specs.Figure.{conditions_from};
 ghost use Rattle.algebraize.specs.Formed.{HasDefaults, curves_of, equations, is_own};
@@ -101,6 +102,7 @@ pub fn system_of<D: Domain>(
     ensures value { Gives equations result (problem_of program.now.acts prove) }
     ensures mean { IfOk result (λ problem. MeanProve D.operations program.now.acts prove (equations problem)) }
     ensures own { IfOk result (λ problem. IsTrue (is_own problem)) }
+    ensures stated { IfOk result (λ problem. IsStated problem) }
 {
     let acts = program.acts.as_slice();
     let place = acts_before(acts, prove);
@@ -122,6 +124,7 @@ pub fn problems(alloc: Global, program: &Program) -> Result<Vec<Problem>, GclFau
     requires { IsSound program.now }
     ensures value { Gives (λ problems. map equations problems.items) result (problems_of program.now.acts) }
     ensures own { IfOk result (λ problems. IsTrue (list_all is_own problems.items)) }
+    ensures stated { IfOk result (λ problems. All IsStated problems.items) }
 {
     let mut problems = Vec::new(alloc);
     let mut prove = 0;

@@ -1,2 +1,3 @@
+pub mod Stated
 pub mod Word
 pub mod Search

@@ -5,4 +5,5 @@ pub mod Rules
 pub mod Chain
 pub mod Work
 pub mod Trees
+pub mod Stated
 pub mod Leaves
