@@ -13,3 +13,4 @@ pub mod Lengths
 pub mod Stated
 pub mod Effects
 pub mod OtherWords
+pub mod Ratios

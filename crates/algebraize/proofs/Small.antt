@@ -109,9 +109,12 @@ abs-signed : (s : Bool) (z : ℤ) → unsigned_abs (signed_by s z) ≡ unsigned_
 abs-signed true z = abs_neg z
 abs-signed false z = refl
 
+pub size-quotient : (c : ℤ) (m : ℕ) → unsigned_abs (quotient_of c m) ≡ unsigned_abs c / m
+size-quotient (pos a) m = refl
+size-quotient (negsuc a) m = abs_neg (pos (suc a / m))
+
 pub abs-quotient : (c : ℤ) (m : ℕ) → unsigned_abs (quotient_of c m) ≤ unsigned_abs c
-abs-quotient (pos a) m = div-le a m
-abs-quotient (negsuc a) m = omega (arith, abs_neg (pos (suc a / m)), div-le (suc a) m)
+abs-quotient c m = omega (arith, size-quotient c m, div-le (unsigned_abs c) m)
 
 weight-divided : (s : Bool) (m : ℕ) (p : Polynomial) → weight (entries_divided s m p) ≤ weight p
 weight-divided s m [] = omega arith
