@@ -11,7 +11,7 @@ use Rattle.gcl_reader.specs.Grammar.{◌>>=◌, Fails, Gives}
 use Rattle.gcl_reader.specs.declared.refusal.GclFault.TheVariants as fault
 use Rattle.gcl_reader.specs.declared.refusal.GclFault.{GclFault}
 use Rattle.poly_model.specs.Domain.{Operations}
-use Rattle.algebraize.specs.declared.problem.Problem.{Problem}
+use Rattle.proof_steps.specs.declared.problem.Problem.{Problem}
 use Rattle.algebraize.specs.Formed.{equations}
 use Rattle.gcl_reader.specs.declared.refusal.Refusal.{Refusal}
 use Rattle.gcl_reader.specs.declared.refusal.Kind.TheVariants as kind

@@ -3,6 +3,7 @@ use Rattle.poly_model.specs.Polynomial.{is_over}
 use Rattle.std.specs.List.{list_all}
 use Rattle.std.specs.Cmp.Derive.{both_true}
 use Rattle.algebraize.proofs.Over as over
+use Rattle.algebraize.proofs.Stated.{stated_problem}
 use Rattle.algebraize.proofs.Proves as proves
 use Rattle.gcl_names.specs.Sound.{nothing, Counts, after_all}
 use Rattle.gcl_names.specs.declared.program.Act.{Act}
@@ -90,3 +91,12 @@ returns-clause-own g c =
     let h = proves.problem_at-ok before c.index-acts-place.result s ps (equations p) is in
     subst (λ (e : Equations). IsTrue (list_all (is_over (length e.variables)) e.hypotheses && list_all (is_over (length e.variables)) e.conclusions)) (sym h.0)
     (both_true (over.over_hypotheses before) (over.over_conclusions before s ps)))
+
+pub returns-clause-stated : goal.returns-clause-stated
+returns-clause-stated g c =
+    let before = take c.acts_before-place.result c.as_slice-acts.result.now in
+    let s = c.in-Prove.statement in
+    let ps = c.as_slice.result.now in
+    proves.gives_ok c.problem_at.result (problem_at before c.index-acts-place.result s ps) c.problem_at.ensures (λ p is.
+    let h = proves.problem_at-ok before c.index-acts-place.result s ps (equations p) is in
+    stated_problem before s ps p h.0 h.1)
