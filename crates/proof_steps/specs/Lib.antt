@@ -1,4 +1,5 @@
 pub mod Letters
+pub mod Paths
 pub mod Numbers
 pub mod Reasons
 pub mod Rules
