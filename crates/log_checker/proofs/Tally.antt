@@ -19,8 +19,7 @@ use Rattle.verdicts.specs.Tallies.{Ending, Parts, Empty, Proves, Remains, Stops,
 use Rattle.verdicts.specs.declared.verdict.Verdict.{Verdict}
 use Rattle.verdicts.specs.declared.verdict.Verdict.TheVariants as verdict
 use Rattle.poly_model.specs.Equality.{same-is}
-use Rattle.assurance.proofs.Same.{same_path-self}
-use Rattle.assurance.proofs.Follow.{Fits, end-path, by_first}
+use Rattle.proof_steps.proofs.Following.{same_path-self, Fits, end-path, by_first}
 use Rattle.assurance.proofs.Paths.{lead, minus-append, plus-append, plus_part-is, replicate-length, replicate-last, all_plus, Below, below-more}
 
 -- ---- repeats are dropped one by one

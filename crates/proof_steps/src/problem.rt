@@ -2,6 +2,9 @@ ghost use Rattle.std.specs.Prelude.{IsTrue, ◌↔◌, ◌≡◌};
 
 use poly_model::{OwnedPoly, Row, Vars};
 
+/// The most terms of a polynomial that a figure states.
+pub const MOST_STATED_TERMS: usize = 12;
+
 /// A problem: over its variables, are the conclusions zero wherever all hypotheses are?
 #[derive(Debug, Drop)]
 pub struct Problem {
