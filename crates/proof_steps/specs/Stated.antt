@@ -3,6 +3,7 @@ use Rattle.std.specs.Prelude.{ℕ, ◌<◌, ◌≤◌, List, length, Bool, IsTru
 use Rattle.std.specs.List.{list_all}
 use Rattle.poly_model.specs.Polynomial.{Polynomial, is_over}
 use Rattle.poly_model.specs.Content.{primitive_part}
+use Rattle.poly_model.specs.Standard.{is_standard}
 use Rattle.poly_model.specs.Reduction.{same}
 use Rattle.poly_model.specs.declared.limits.TheConstants.{MOST_HYPOTHESES, MOST_CONCLUSIONS}
 use Rattle.proof_steps.specs.declared.problem.Problem.{Problem}
@@ -16,9 +17,10 @@ is_own_part p = same p (primitive_part p)
 abbrev pub is_brief : Polynomial → Bool
 is_brief p = nat_le (length p) MOST_STATED_TERMS
 
--- Polynomials over the first n variables, each its own primitive part and of few terms.
+-- Polynomials over the first n variables and within the limits, each its own primitive part and of few terms.
 pub record AreStated (n : ℕ) (ps : List Polynomial) : Type 0 where
   pub own : IsTrue (list_all (is_over n) ps)
+  pub standard : IsTrue (list_all is_standard ps)
   pub parts : IsTrue (list_all is_own_part ps)
   pub brief : IsTrue (list_all is_brief ps)
 

@@ -1,0 +1,3 @@
+mod Pieces
+mod Under
+mod Whole
