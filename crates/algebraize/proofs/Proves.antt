@@ -257,6 +257,11 @@ pub gives_ok : {Q : Problem → Type 0} (r : Result Problem GclFault) (x : Resul
 gives_ok (Ok p) x g f = f p g
 gives_ok (Err e) x g f = tt
 
+pub gives_ok_with : {P Q : Problem → Type 0} (r : Result Problem GclFault) (x : Result Equations Refusal) → Gives equations r x → IfOk r P
+    → ((p : Problem) → x ≡ Ok (equations p) → P p → Q p) → IfOk r Q
+gives_ok_with (Ok p) x g h f = f p g h
+gives_ok_with (Err e) x g h f = tt
+
 -- Problems behind those that are formed.
 abbrev pub behind : List Equations → Result (List Equations) Refusal → Result (List Equations) Refusal
 behind front read = read >>= λ es. Ok (front ++ es)

@@ -1,16 +1,17 @@
 -- What a program states: how many terms its expressions have, how many they are, and that each is its own primitive part.
-use Rattle.std.proofs.Common.{rules, ◌≡◌, ◌<◌, ◌≤◌, ◌+◌, ◌==◌, ℕ, zero, suc, List, [], ◌∷◌, ◌++◌, length, get_or, map, refl, sym, ◌∙◌, ap, subst, arith, true, false, if◌then◌else◌, nat_le, length-append}
+use Rattle.std.proofs.Common.{IsTrue, rules, ◌≡◌, ◌<◌, ◌≤◌, ◌+◌, ◌==◌, ℕ, zero, suc, List, [], ◌∷◌, ◌++◌, length, get_or, map, refl, sym, ◌∙◌, ap, subst, arith, true, false, if◌then◌else◌, nat_le, length-append}
 use Rattle.std.specs.List.{list_all}
 use Rattle.std.specs.Prelude.{pos}
 use Rattle.std.specs.Cmp.Derive.{both_true}
 use Rattle.poly_model.specs.Polynomial.{Polynomial, IsDescending}
 use Rattle.poly_model.specs.Content.{primitive_part}
+use Rattle.poly_model.specs.Standard.{is_standard}
 use Rattle.poly_model.specs.Reduction.{same}
 use Rattle.poly_model.specs.Equality.{same-self}
 use Rattle.poly_model.specs.declared.limits.TheConstants.{MOST_VARIABLES}
 use Rattle.poly_model.proofs.Ordered.{descending-sum, descending-negative, descending-product, descending-constant, descending-variable}
 use Rattle.poly_model.proofs.Primitive.{own-primitive_part}
-use Rattle.proof_steps.specs.Stated.{is_own_part, is_brief, AreStated, IsStated}
+use Rattle.proof_steps.specs.Stated.{is_own_part, is_brief, AreStated, IsStated, IsWithinLimits}
 use Rattle.proof_steps.specs.declared.problem.Problem.{Problem}
 use Rattle.proof_steps.specs.declared.problem.TheConstants.{MOST_STATED_TERMS}
 use Rattle.gcl_reader.specs.declared.word.Statement.{Statement}
@@ -371,9 +372,10 @@ few_hypotheses : (acts : List Act) → length (hypotheses_of acts) ≤ length (l
 few_hypotheses acts =
     omega (arith, length-parts (expressions_of acts), length-acts (general_figure (layout_of acts)) no_curves empty acts, within-layout empty acts (omega arith))
 
-hypotheses-stated : (acts : List Act) → AreStated (length (layout_of acts).variables) (hypotheses_of acts)
-hypotheses-stated acts = record {
+hypotheses-stated : (acts : List Act) → IsTrue (list_all is_standard (hypotheses_of acts)) → AreStated (length (layout_of acts).variables) (hypotheses_of acts)
+hypotheses-stated acts within = record {
   own = over_hypotheses acts;
+  standard = within;
   parts = own_parts (expressions_of acts) _
       (related.kept-acts descends _ _ no_curves no_curves acts (descending-places (layout_of acts).places) (related.none-kept descends));
   brief = brief_parts (expressions_of acts)
@@ -385,9 +387,11 @@ is_conclusion acts s points =
     let f = general_figure (layout_of acts) in
     stated-conclusion s (map (place_of polynomials f) points) (singles f points (single-places (layout_of acts).places))
 
-conclusions-stated : (acts : List Act) (s : Statement) (points : List ℕ) → AreStated (length (layout_of acts).variables) (conclusions_of acts s points)
-conclusions-stated acts s points = record {
+conclusions-stated : (acts : List Act) (s : Statement) (points : List ℕ) → IsTrue (list_all is_standard (conclusions_of acts s points))
+    → AreStated (length (layout_of acts).variables) (conclusions_of acts s points)
+conclusions-stated acts s points within = record {
   own = over_conclusions acts s points;
+  standard = within;
   parts = own_parts (conclusion polynomials (general_figure (layout_of acts)) s points) _
       (related.kept-conclusion descends _ _ s points (descending-places (layout_of acts).places));
   brief = brief_parts (conclusion polynomials (general_figure (layout_of acts)) s points) (is_conclusion acts s points).0;
@@ -395,15 +399,15 @@ conclusions-stated acts s points = record {
 
 -- What a problem with these equations states.
 pub stated_problem : (acts : List Act) (s : Statement) (points : List ℕ) (p : Problem) → equations p ≡ equations_of acts s points
-    → length (layout_of acts).variables ≤ MOST_VARIABLES → IsStated p
-stated_problem acts s points p is few =
+    → length (layout_of acts).variables ≤ MOST_VARIABLES → IsWithinLimits p → IsStated p
+stated_problem acts s points p is few within =
     let hyps = ap (λ (e : Equations). e.hypotheses) is in
     let cons = ap (λ (e : Equations). e.conclusions) is in
     let shown = is_conclusion acts s points in
     let count = ap length cons ∙ length-parts (conclusion polynomials (general_figure (layout_of acts)) s points) in
     record {
-      hyps = subst (λ (e : Equations). AreStated (length e.variables) e.hypotheses) (sym is) (hypotheses-stated acts);
-      cons = subst (λ (e : Equations). AreStated (length e.variables) e.conclusions) (sym is) (conclusions-stated acts s points);
+      hyps = subst (λ (e : Equations). AreStated (length e.variables) e.hypotheses) (sym is) (hypotheses-stated acts (subst (λ ps. IsTrue (list_all is_standard ps)) hyps within.hyps));
+      cons = subst (λ (e : Equations). AreStated (length e.variables) e.conclusions) (sym is) (conclusions-stated acts s points (subst (λ ps. IsTrue (list_all is_standard ps)) cons within.cons));
       few_hyps = omega (arith, ap length hyps, few_hypotheses acts, few);
       some_con = omega (arith, count, shown.1);
       few_cons = omega (arith, count, shown.2);

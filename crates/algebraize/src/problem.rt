@@ -4,7 +4,7 @@ ghost use Rattle.std.specs.List.{list_all};
 ghost use Rattle.gcl_names.specs.Sound.{IsSound};
 ghost use Rattle.gcl_reader.specs.Grammar.{Gives};
 ghost use Rattle.poly_model.specs.Content.{primitive_part};
-ghost use Rattle.proof_steps.specs.Stated.{IsStated};
+ghost use Rattle.proof_steps.specs.Stated.{IsStated, IsWithinLimits};
 ghost use Rattle.algebraize.specs.Equations.{polynomials};
 ghost use Rattle.algebraize.specs.Figure.{conditions_from};
 ghost use Rattle.algebraize.specs.Formed.{HasDefaults, curves_of, equations, is_own};
@@ -55,15 +55,18 @@ fn problem_at(
     statement: Statement,
     points: &[u32],
 ) -> Result<Problem, GclFault>
-    ensures { Gives equations result (problem_at before.now prove.now statement points.now) }
+    ensures value { Gives equations result (problem_at before.now prove.now statement points.now) }
+    ensures within { IfOk result IsWithinLimits }
 {
     let layout = lay_out(alloc, before, prove)?;
     let mut figure = Figure::general(alloc, &layout)?;
-    Ok(Problem {
+    let problem = Problem {
         vars: layout.vars(),
         hyps: hypotheses(alloc, &mut figure, before)?,
         cons: Row::from_vec(figure.conclusions(alloc, statement, points)?),
-    })
+    };
+    problem.is_within_limits();
+    Ok(problem)
 }
 
 /// How many acts stand before a prove, counted from 0; all of them, where there is no such prove.

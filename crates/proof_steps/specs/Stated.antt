@@ -24,6 +24,11 @@ pub record AreStated (n : ℕ) (ps : List Polynomial) : Type 0 where
   pub parts : IsTrue (list_all is_own_part ps)
   pub brief : IsTrue (list_all is_brief ps)
 
+-- The polynomials of a problem are within the limits.
+pub record IsWithinLimits (problem : Problem) : Type 0 where
+  pub hyps : IsTrue (list_all is_standard problem.hyps)
+  pub cons : IsTrue (list_all is_standard problem.cons)
+
 -- A problem whose polynomials are so; it has at least one conclusion, and not too many polynomials.
 pub record IsStated (problem : Problem) : Type 0 where
   pub hyps : AreStated (length problem.vars) problem.hyps
