@@ -5,3 +5,4 @@
 mod bench;
 mod facts;
 mod parts;
+mod steps;
