@@ -1,3 +1,5 @@
 pub mod Owning
 pub mod Tests
 pub mod Benches
+pub mod Tied
+pub mod Choice

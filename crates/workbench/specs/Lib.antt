@@ -1,2 +1,4 @@
 pub mod Owned
 pub mod Standing
+pub mod Searches
+pub mod Dues

@@ -3,6 +3,9 @@
 #![tactic(auto)]
 
 mod bench;
+mod due;
 mod facts;
 mod parts;
+mod repeats;
+mod search;
 mod steps;
