@@ -3,3 +3,4 @@ pub mod Tests
 pub mod Benches
 pub mod Tied
 pub mod Choice
+pub mod Tried

@@ -2,3 +2,4 @@ pub mod Owned
 pub mod Standing
 pub mod Searches
 pub mod Dues
+pub mod Taking

@@ -3,7 +3,7 @@ ghost use Rattle.std.specs.Prelude.{◌≡◌, ◌≤◌, ◌<◌, ◌+◌, leng
 ghost use Rattle.std.specs.FinMap.{remove};
 ghost use Rattle.poly_model.specs.Reduction.{class_of, is_constant, main_place, main_degree, primitive_initial, primitive_tail};
 ghost use Rattle.poly_model.specs.declared.limits.TheConstants.{MOST_VARIABLES, ARITH_UNITS, POLY_UNITS};
-ghost use Rattle.term_store.specs.States.{IsLive, list_at};
+ghost use Rattle.term_store.specs.States.{IsLive, list_at, newest_without};
 ghost use Rattle.polynomials.specs.Held.{IsPoly, Gives, polynomial_at, slot_of};
 
 use polynomials::{Poly, class, coefficient, degree, prim, tail};
@@ -15,6 +15,8 @@ pub fn give_up<S: TermStore>(s: &mut S, p: Poly)
     ensures lists { (S.state s.new).lists ≡ remove (S.state s.old).lists (slot_of p) }
     ensures spare { (S.state s.new).spare
         ≡ (S.state s.old).spare + (length (list_at (S.state s.old).lists (slot_of p)) + 1) }
+    ensures newest { (S.state s.new).newest
+        ≡ newest_without (slot_of p) (S.state s.old).newest }
 {
     s.free(p.slot());
 }
