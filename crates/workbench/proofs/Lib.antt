@@ -4,3 +4,4 @@ pub mod Benches
 pub mod Tied
 pub mod Choice
 pub mod Tried
+pub mod Sharing

@@ -10,17 +10,17 @@ use Rattle.poly_model.specs.declared.limits.Limit.{Limit}
 use Rattle.polynomials.specs.declared.poly.Poly.{Poly}
 use Rattle.polynomials.specs.Held.{Gives}
 use Rattle.proof_steps.specs.Numbers.{item, has}
-use Rattle.poly_model.specs.Reduction.{primitive_tail, reduction_of, class_of, is_constant, reaches}
+use Rattle.poly_model.specs.Reduction.{primitive_initial, primitive_tail, reduction_of, class_of, is_constant, reaches}
 use Rattle.poly_model.specs.Bounded.{bounded_reduction}
 use Rattle.proof_steps.specs.Rules.{has_known_initial, size_of, dropped, cut, reduction_limit, reduced, made, is_short, is_valid, reason_of}
 use Rattle.proof_steps.specs.Reasons.{limit_met}
-use Rattle.proof_steps.specs.Trees.{AsStep}
+use Rattle.proof_steps.specs.Trees.{AsStep, AsOutcome}
 use Rattle.poly_model.specs.Reasons as limits
 use Rattle.proof_steps.specs.declared.piece.Node.{Node}
 use Rattle.proof_steps.specs.declared.step.Attempt.TheVariants as attempt
 use Rattle.proof_steps.specs.declared.step.Step.TheVariants as step
 use Rattle.poly_model.specs.declared.limits.Reason.{Reason}
-use Rattle.poly_model.specs.declared.limits.Reason.TheVariants.{Fuel}
+use Rattle.poly_model.specs.declared.limits.Reason.TheVariants.{Fuel, Depth}
 use Rattle.pseudo_div.specs.Answers.{Reduces}
 use Rattle.workbench.specs.Standing.{Stands, AllTell, Becomes, Settled, held_at, node_at, put_at}
 use Rattle.workbench.specs.declared.bench.Held.{Held}
@@ -31,8 +31,13 @@ use Rattle.poly_model.proofs.Within.{within-of}
 use Rattle.poly_model.specs.Standard.{is_standard}
 use Rattle.std.proofs.lemmas.List.{length-map}
 use Rattle.workbench.specs.Taking.{Takes}
-use Rattle.poly_model.specs.declared.limits.TheConstants.{MOST_VARIABLES}
+use Rattle.poly_model.specs.declared.limits.TheConstants.{MOST_LETTERS, MOST_VARIABLES}
 use Rattle.workbench.specs.declared.bench.Bench.{Bench}
+use Rattle.workbench.specs.Splitting.{PartedBy, Parts}
+use Rattle.workbench.specs.declared.splitting.Parting.{Parting}
+use Rattle.workbench.specs.declared.splitting.Parting.TheVariants as parting
+use Rattle.proof_steps.specs.declared.piece.Outcome.TheVariants as outcome
+use Rattle.std.proofs.lemmas.Bool.{ne_eqb}
 use Rattle.workbench.specs.declared.taken.Taken.TheVariants as taken
 
 -- what the answer of a reduction says
@@ -192,3 +197,28 @@ drop-taken base u c n i x enough at =
     let less = sizes-without n.eqs (i - 1) at in
     let long : is_short (dropped n i) ≡ false = not-below _ (size_of (dropped n i)) (omega (arith, less, enough)) in
     (ap (λ b. if b then Some Fuel else None) (one-short (dropped n i) false long), refl, x)
+
+-- ---- split
+pub split-class : (s : State) (b : Bench) (f : ℕ) (y : Held) → is_valid 1 (node_at s b) (attempt.Split f) ≡ true → f - 1 < length b.eqs.items → y ≡ get_or b.eqs.items (f - 1) y → is_constant (held_at s y) ≡ false
+split-class s b f y v below by =
+    let n = node_at s b in
+    ap is_constant (equation-at s b.eqs.items (f - 1) y below by) ∙ not-true (is_constant (item n.eqs f)) (and_parts (has n.eqs f) _ v).1
+
+pub split-place : (s : State) (b : Bench) (f : ℕ) → is_valid 1 (node_at s b) (attempt.Split f) ≡ true → f - 1 < length b.eqs.items
+split-place s b f v =
+    let by = has-place (node_at s b).eqs f (and_parts (has (node_at s b).eqs f) _ v).0 in
+    let l : length (map (held_at s) b.eqs.items) ≡ length b.eqs.items = length-map b.eqs.items (held_at s) in
+    omega (arith, by, l)
+
+split-reason : (n : Node) (f : ℕ) (b : Bool) → length n.path ≢ MOST_LETTERS → list_any is_short (made 1 n (attempt.Split f)) ≡ b → reason_of 1 n (attempt.Split f) ≡ (if b then Some Fuel else None)
+split-reason n f b deep e =
+    ap (λ x. by_fuel (if x then Some Depth else None) (made 1 n (attempt.Split f))) (ne_eqb (length n.path) MOST_LETTERS deep) ∙ ap (λ x. if x then Some Fuel else None) e
+
+pub split-parts : {E : Type 0} (n : Node) (f : ℕ) (j r : Polynomial) (x : Result Parting E) → j ≡ primitive_initial (item n.eqs f) → r ≡ primitive_tail (item n.eqs f) → length n.path ≢ MOST_LETTERS
+    → IfOk x (λ p. PartedBy n (f - 1) j r p) → IfOk x (λ p. Parts n f p)
+split-parts n f j r (Err e) ji ri deep h = tt
+split-parts n f j r (Ok p) ji ri deep h = by p (subst (λ (q : Polynomial × Polynomial). PartedBy n (f - 1) q.0 q.1 p) (λ i. (ji i, ri i)) h)
+  where
+    by : (p : Parting) → PartedBy n (f - 1) (primitive_initial (item n.eqs f)) (primitive_tail (item n.eqs f)) p → Parts n f p
+    by (parting.Parted k plus minus) y = (split-reason n f false deep y.2, ap (λ q. AsOutcome (outcome.Split f q)) (sym y.0), y.1)
+    by (parting.Stopped why) y = split-reason n f true deep y.1 ∙ ap Some (sym y.0)

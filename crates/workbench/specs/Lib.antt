@@ -3,3 +3,4 @@ pub mod Standing
 pub mod Searches
 pub mod Dues
 pub mod Taking
+pub mod Splitting

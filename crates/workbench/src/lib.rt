@@ -9,6 +9,7 @@ mod parts;
 mod release;
 mod repeats;
 mod search;
+mod splitting;
 mod steps;
 mod taken;
 mod taking;
