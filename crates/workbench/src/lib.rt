@@ -13,3 +13,12 @@ mod splitting;
 mod steps;
 mod taken;
 mod taking;
+
+pub use bench::{Bench, Held};
+pub use due::{Next, due};
+pub use facts::{held, is_known};
+pub use parts::{class_number, give_up, term_count};
+pub use release::{release, release_held, release_polys};
+pub use splitting::{Parting, copy_conditions, copy_equations, split};
+pub use taken::Taken;
+pub use taking::{cut, drop, reduce};
