@@ -366,3 +366,14 @@ node-within s u b w live =
     let eqs = seen-held u s b.eqs.items w (owning.live-front s _ _ live) in
     let nes = seen u s b.nes.items w (owning.live-back s (map held_slot b.eqs.items) _ live) in
     λ j. record { path = b.path; eqs = sym eqs j; nes = sym nes j; fuel = b.fuel }
+
+-- ---- the facts of many, one after the other
+pub held-keeps : (s t : State) (ps : List Poly) → Keeps s t → AreHeld s ps → AreHeld t ps
+held-keeps s t ps k h = held-within s t ps (owning.within-keeps s t k) h
+
+pub tells-keeps : (s t : State) (nes : List Poly) (h : Held) (p : Poly) → Keeps s t → Tells (map (polynomial_at t) nes) h (polynomial_at t p) → Tells (map (polynomial_at s) nes) h (polynomial_at s p)
+tells-keeps s t nes h p k x = subst (λ m. Tells (map (λ q. polynomial_of (list_at m (slot_of q))) nes) h (polynomial_of (list_at m (slot_of p)))) k.lists x
+
+pub tell-more : (N : List Polynomial) (f : Held → Polynomial) (hs : List Held) (h : Held) → AllTell N hs (map f hs) → Tells N h (f h) → AllTell N (hs ++ h ∷ []) (map f (hs ++ h ∷ []))
+tell-more N f [] h t u = (u, tt)
+tell-more N f (x ∷ hs) h t u = (t.0, tell-more N f hs h t.1 u)

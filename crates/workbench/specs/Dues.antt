@@ -1,7 +1,7 @@
 -- What is due, as the code tells it.
 use Rattle.proof_steps.specs.Work as work
-use Rattle.workbench.specs.declared.due.Next.{Next}
-use Rattle.workbench.specs.declared.due.Next.TheVariants as due
+use Rattle.workbench.specs.declared.order.Next.{Next}
+use Rattle.workbench.specs.declared.order.Next.TheVariants as due
 
 abbrev pub next_of : Next → work.Next
 next_of (due.Try a) = work.Try a

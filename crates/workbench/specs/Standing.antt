@@ -13,6 +13,10 @@ use Rattle.workbench.specs.Owned.{Owns, AllLive, without}
 use Rattle.workbench.specs.declared.bench.Bench.{Bench}
 use Rattle.workbench.specs.declared.bench.Held.{Held}
 
+-- The polynomial of an equation.
+abbrev pub poly_of : Held → Poly
+poly_of h = h.poly
+
 -- The slots of a node that is worked on.
 abbrev pub held_slot : Held → ℕ
 held_slot h = slot_of h.poly

@@ -1,15 +1,16 @@
 // What is known of an equation.
-ghost use Rattle.std.specs.Prelude.{◌≡◌, ◌≤◌, ◌+◌, ◌||◌, map};
+ghost use Rattle.std.specs.Prelude.{◌≡◌, ◌≤◌, ◌+◌, ◌||◌, map, IfOk};
 ghost use Rattle.poly_model.specs.Reduction.{has_polynomial, is_nonzero_constant};
 ghost use Rattle.poly_model.specs.declared.limits.TheConstants.{ARITH_UNITS, POLY_UNITS};
 ghost use Rattle.proof_steps.specs.Rules.{has_known_initial};
 ghost use Rattle.term_store.specs.Changes.{Keeps};
 ghost use Rattle.polynomials.specs.Held.{IsPoly, polynomial_at};
-ghost use Rattle.workbench.specs.Standing.{AreHeld, Tells};
+ghost use Rattle.workbench.specs.Standing.{AllTell, AreHeld, Tells, held_at, poly_of};
 
 use crate::bench::Held;
 use crate::parts::{class_number, give_up, main_degree, primitive_initial, term_count};
 use polynomials::{Poly, same};
+use std::alloc::{AllocError, Global};
 use term_store::TermStore;
 
 /// The polynomial is one of these.
@@ -81,4 +82,29 @@ pub fn held<S: TermStore>(s: &mut S, nes: &[Poly], poly: Poly) -> Held
         terms: term_count(s, poly),
         known,
     }
+}
+
+/// What is to be known of each of these.
+pub fn all_held<S: TermStore>(
+    alloc: Global,
+    s: &mut S,
+    nes: &[Poly],
+    ps: &[Poly],
+) -> Result<Vec<Held>, AllocError>
+    requires nes { AreHeld (S.state s.old) nes.now }
+    requires ps { AreHeld (S.state s.old) ps.now }
+    requires room { ARITH_UNITS + POLY_UNITS ≤ (S.state s.old).spare }
+    ensures polys { IfOk result (λ hs. map poly_of hs.items ≡ ps.now) }
+    ensures tell { IfOk result (λ hs. AllTell (map (polynomial_at (S.state s.old)) nes.now)
+        hs.items (map (held_at (S.state s.old)) hs.items)) }
+    ensures kept { Keeps (S.state s.old) (S.state s.new) }
+{
+    let mut hs = Vec::new(alloc);
+    let mut rest = ps;
+    while let Some((first, after)) = rest.split_first() {
+        let known = held(s, nes, *first);
+        hs.push(known)?;
+        rest = after;
+    }
+    Ok(hs)
 }

@@ -3,10 +3,10 @@
 #![tactic(auto)]
 
 mod bench;
-mod due;
 mod facts;
+mod lists;
+mod order;
 mod parts;
-mod release;
 mod repeats;
 mod search;
 mod splitting;
@@ -15,10 +15,10 @@ mod taken;
 mod taking;
 
 pub use bench::{Bench, Held};
-pub use due::{Next, due};
-pub use facts::{held, is_known};
+pub use facts::{all_held, is_known};
+pub use lists::{release, release_held, release_polys};
+pub use order::{Next, due};
 pub use parts::{class_number, give_up, term_count};
-pub use release::{release, release_held, release_polys};
 pub use splitting::{Parting, copy_conditions, copy_equations, split};
 pub use taken::Taken;
 pub use taking::{cut, drop, reduce};

@@ -4,7 +4,7 @@ use Rattle.term_store.specs.Changes.{Keeps}
 use Rattle.workbench.specs.Owned.{AreLive, without}
 use Rattle.workbench.specs.Standing.{held_slot}
 use Rattle.workbench.proofs.Owning as owning
-use Rattle.workbench.proofs.release.release.Goals as goal
+use Rattle.workbench.proofs.lists.release.Goals as goal
 
 pub release_held-requires : goal.release_held-requires
 release_held-requires g c =

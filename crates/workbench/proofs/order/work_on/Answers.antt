@@ -9,7 +9,7 @@ use Rattle.workbench.proofs.Owning as owning
 use Rattle.workbench.proofs.Benches as benches
 use Rattle.workbench.proofs.Tied as tied
 use Rattle.workbench.proofs.Choice as choice
-use Rattle.workbench.proofs.due.work_on.Goals as goal
+use Rattle.workbench.proofs.order.work_on.Goals as goal
 
 pub overflow_sub-f : goal.overflow_sub-f
 overflow_sub-f g c =

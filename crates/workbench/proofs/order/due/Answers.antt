@@ -7,7 +7,7 @@ use Rattle.workbench.specs.Searches as searches
 use Rattle.workbench.proofs.Benches as benches
 use Rattle.workbench.proofs.Tied as tied
 use Rattle.workbench.proofs.Choice as choice
-use Rattle.workbench.proofs.due.due.Goals as goal
+use Rattle.workbench.proofs.order.due.Goals as goal
 
 pub dropped-i-requires-clause-hs : goal.dropped-i-requires-clause-hs
 dropped-i-requires-clause-hs g c = subst (AreFound (g.S.TermStore.state c.args.s.now)) (sym c.deref.ensures.value) (choice.found-all _ _ _ c.args.bench.now c.requires.stands)
