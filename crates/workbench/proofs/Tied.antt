@@ -39,7 +39,7 @@ known-tied N (h ∷ hs) (p ∷ E) x t = λ i. (not (t.0.class i == x) || t.0.kno
 pub settled-tied : (N : List Polynomial) (hs : List Held) (E : List Polynomial) (x : ℕ) → AllTell N hs E → settled_in hs x ≡ is_settled E N x
 settled-tied N hs E x t = λ i. (count-tied N hs E x t i == 1) && known-tied N hs E x t i
 
-greatest-tied : (N : List Polynomial) (f : Held → ℕ) (g : Polynomial → ℕ) (hs : List Held) (E : List Polynomial) → ((h : Held) (p : Polynomial) → Tells N h p → f h ≡ g p) → AllTell N hs E → greatest_in f hs ≡ greatest g E
+pub greatest-tied : (N : List Polynomial) (f : Held → ℕ) (g : Polynomial → ℕ) (hs : List Held) (E : List Polynomial) → ((h : Held) (p : Polynomial) → Tells N h p → f h ≡ g p) → AllTell N hs E → greatest_in f hs ≡ greatest g E
 greatest-tied N f g [] [] e t = refl
 greatest-tied N f g [] (p ∷ E) e t = absurd t
 greatest-tied N f g (h ∷ hs) [] e t = absurd t
@@ -78,10 +78,10 @@ found f N T t E0 (h ∷ hs) k a e at =
     by true rest = refl
     by false rest = rest
 
-item-next : (E : List Polynomial) (i : ℕ) → item E (1 + i) ≡ get_or E i []
+pub item-next : (E : List Polynomial) (i : ℕ) → item E (1 + i) ≡ get_or E i []
 item-next E i = ap (λ k. get_or E k []) (let e : 1 + i - 1 ≡ i = omega arith in e)
 
-some-is : (k : ℕ) → unwrap_or (some_place k) 0 ≡ k
+pub some-is : (k : ℕ) → unwrap_or (some_place k) 0 ≡ k
 some-is zero = refl
 some-is (suc k) = refl
 
