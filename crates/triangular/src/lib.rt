@@ -2,7 +2,7 @@
 #![tactic(auto)]
 
 
-
+mod reducer;
 mod system;
 
 
