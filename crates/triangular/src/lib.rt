@@ -1,9 +1,8 @@
 //! Triangular systems over a store, and the reduction of conclusions by one.
 #![tactic(auto)]
 
-
+mod chain;
 mod reducer;
 mod system;
-
 
 pub use system::is_triangular;

@@ -1,5 +1,5 @@
 // The equation that reduces a polynomial.
-ghost use Rattle.std.specs.Prelude.{◌≡◌, ◌≤◌, ◌<◌, ◌^◌, length};
+ghost use Rattle.std.specs.Prelude.{◌≡◌, ◌≤◌, ◌<◌, ◌^◌, ◌-◌, get_or, length};
 ghost use Rattle.polynomials.specs.Held.{IsPoly, polynomial_at};
 ghost use Rattle.triangular.specs.Reducers.{AreWithin, reducing_in, first_in};
 
@@ -40,4 +40,13 @@ pub fn first_of_class(hs: &[Held], x: u8) -> usize
         rest = after;
     }
     0
+}
+
+/// The equation of this number.
+pub fn equation(hs: &[Held], f: usize) -> Held
+    requires low { 1 ≤ f }
+    requires below { f - 1 < length hs.now }
+    ensures { result ≡ get_or hs.now (f - 1) result }
+{
+    hs[f - 1]
 }
