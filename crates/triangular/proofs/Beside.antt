@@ -15,12 +15,13 @@ use Rattle.poly_model.proofs.Reductions.{bounded_reduction-is}
 use Rattle.poly_model.proofs.Within.{within-of}
 use Rattle.term_store.specs.States.{State}
 use Rattle.term_store.specs.Changes.{Keeps, given_up}
-use Rattle.polynomials.specs.Held.{IsPoly}
+use Rattle.polynomials.specs.declared.poly.Poly.{Poly}
+use Rattle.polynomials.specs.Held.{IsPoly, polynomial_at}
 use Rattle.pseudo_div.specs.Steps.{cost_of, met_by}
 use Rattle.proof_steps.specs.Numbers.{item}
 use Rattle.proof_steps.specs.Chain.{reducing_class, first_of_class, chain_reason}
 use Rattle.workbench.specs.Owned.{AllLive}
-use Rattle.workbench.specs.Standing.{AllTell, AreFound, held_at, held_slot}
+use Rattle.workbench.specs.Standing.{AllTell, AreFound, AreHeld, held_at, held_slot, poly_of}
 use Rattle.workbench.specs.declared.bench.Held.{Held}
 use Rattle.workbench.proofs.Owning as owning
 use Rattle.workbench.proofs.Benches as benches
@@ -98,3 +99,27 @@ result-is R F G q e sr sf met = bounded_reduction-is MOST_VARIABLES R F q (withi
 pub ok-map : {A E : Type 0} (P Q : A → Type 0) (r : Result A E) → ((a : A) → P a → Q a) → IfOk r P → IfOk r Q
 ok-map P Q (Ok a) f h = f a h
 ok-map P Q (Err e) f h = tt
+
+-- ---- the facts of a system, in a store that kept its lists
+pub record Kept (b : State) (hs : List Held) (E : List Polynomial) : Type 0 where
+  pub found : AreFound b hs
+  pub tell : AllTell [] hs (map (held_at b) hs)
+  pub same : map (held_at b) hs ≡ E
+
+held-eqs : (s : State) (hs : List Held) → map (held_at s) hs ≡ map (polynomial_at s) (map poly_of hs)
+held-eqs s [] = refl
+held-eqs s (h ∷ hs) = ap (λ l. held_at s h ∷ l) (held-eqs s hs)
+
+found-of : (s : State) (hs : List Held) → AreHeld s (map poly_of hs) → AreFound s hs
+found-of s [] h = tt
+found-of s (x ∷ hs) h = (record { live = h.live.0; standard = h.standard.0 }, found-of s hs record { live = h.live.1; standard = h.standard.1 })
+
+pub kept : (s b : State) (hs : List Held) (eqs : List Poly) → Keeps s b → map poly_of hs ≡ eqs → AllTell [] hs (map (held_at s) hs) → AreHeld s eqs → Kept b hs (map (polynomial_at s) eqs)
+kept s b hs eqs k polys t h =
+    let found = found-of s hs (subst (AreHeld s) (sym polys) h) in
+    let same = benches.seen-held b s hs (owning.within-keeps s b k) (found-live s hs found) in
+    record {
+      found = choice.found-within s b hs (owning.within-keeps s b k) found;
+      tell = subst (AllTell [] hs) same t;
+      same = sym same ∙ held-eqs s hs ∙ ap (map (polynomial_at s)) polys;
+    }

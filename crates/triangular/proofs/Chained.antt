@@ -120,3 +120,7 @@ met-is fuel p f sp sf = by (bounded_reduction p f) refl
 pub zero-at : (E cons : List Polynomial) (fuel k : ℕ) (p : Polynomial) (rest : List Polynomial) (steps : List ChainStep) (left : ℕ) → length p ≡ 0 → Chains E cons fuel k (p ∷ rest) steps left → Chains E cons fuel (suc k) rest steps left
 zero-at E cons fuel k [] rest steps left h c = zero-first E cons fuel k rest steps left c
 zero-at E cons fuel k (e ∷ p) rest steps left h c = absurd (omega (arith, h))
+
+pub ended-at : (E cons : List Polynomial) (fuel k : ℕ) (ps : List Polynomial) (steps : List ChainStep) (left : ℕ) → length ps ≡ 0 → Chains E cons fuel k ps steps left → chain_of E cons fuel ≡ (steps, status.Proved)
+ended-at E cons fuel k [] steps left h c = ended E cons fuel k steps left c
+ended-at E cons fuel k (p ∷ ps) steps left h c = absurd (omega (arith, h))

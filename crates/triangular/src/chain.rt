@@ -110,3 +110,41 @@ fn reduce_one<S: TermStore>(
     give_up(s, rest);
     Ok(None)
 }
+
+/// Reduces the conclusions by the equations of a system, one after the other: each by the equation of the greatest class
+/// whose degree it reaches, as long as there is one, and each step paid from the fuel with 1 and the terms of its result.
+/// The chain ends at the first conclusion that stays other than 0, at the first step that meets a limit or that the fuel does
+/// not pay, or where all are 0.
+pub fn reduce_conclusions<S: TermStore>(
+    alloc: Global,
+    s: &mut S,
+    eqs: &[Poly],
+    cons: &[OwnedPoly],
+    fuel: u32,
+) -> Result<(Vec<ChainStep>, LeafStatus), AllocError>
+    requires eqs { AreHeld (S.state s.old) eqs.now }
+    requires own { HaveOwnClasses (map (polynomial_at (S.state s.old)) eqs.now) }
+    requires few { length eqs.now < 2 ^ 16 }
+    requires cons { length cons.now ≤ MOST_CONCLUSIONS }
+    requires room { LEAF_UNITS ≤ (S.state s.old).spare }
+    ensures chain { IfOk result (λ c. (c.0.items, c.1)
+        ≡ chain_of (map (polynomial_at (S.state s.old)) eqs.now) cons.now fuel) }
+    ensures kept { Keeps (S.state s.old) (S.state s.new) }
+{
+    let hs = all_held(alloc, s, &[], eqs)?;
+    let mut chain = Chain {
+        steps: Vec::new(alloc),
+        left: fuel,
+    };
+    let mut k = 1;
+    let mut rest = cons;
+    while let Some((first, after)) = rest.split_first() {
+        let p = copy_in(s, first);
+        if let Some(status) = reduce_one(alloc, s, &hs, k, p, &mut chain)? {
+            return Ok((chain.steps, status));
+        }
+        k += 1;
+        rest = after;
+    }
+    Ok((chain.steps, LeafStatus::Proved))
+}

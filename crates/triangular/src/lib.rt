@@ -5,4 +5,5 @@ mod chain;
 mod reducer;
 mod system;
 
+pub use chain::reduce_conclusions;
 pub use system::is_triangular;
