@@ -50,3 +50,40 @@ fn sizes(ps: &[OwnedPoly]) -> u32
     }
     sum
 }
+
+/// The node with copies of its polynomials in the store, and what is known of its equations.
+pub fn open<S: TermStore>(alloc: Global, s: &mut S, node: &Node) -> Result<Bench, AllocError>
+    requires fuel { size_of node.now ≤ node.now.fuel }
+    requires most { node.now.fuel ≤ MOST_FUEL }
+    requires few { length node.now.eqs + length node.now.nes
+        ≤ MOST_HYPOTHESES + length node.now.path }
+    requires room { EXPAND_UNITS ≤ (S.state s.old).spare }
+    ensures opened { IfOk result (λ b. Becomes (S.state s.old) (S.state s.new) b node.now) }
+    ensures refused { OnErr result (Keeps (S.state s.old) (S.state s.new)) }
+{
+    let letters = node.path.len();
+    prove!(letters <= MOST_LETTERS);
+    let size = 4 + sizes(node.eqs.as_slice()) + sizes(node.nes.as_slice());
+    let nes = copy_all(alloc, s, node.nes.as_slice())?;
+    let eqs = match copy_all(alloc, s, node.eqs.as_slice()) {
+        Ok(eqs) => eqs,
+        Err(refused) => {
+            release_polys(s, &nes);
+            return Err(refused);
+        }
+    };
+    match all_held(alloc, s, &nes, &eqs) {
+        Ok(held) => Ok(Bench {
+            path: node.path,
+            eqs: held,
+            nes,
+            fuel: node.fuel,
+            size,
+        }),
+        Err(refused) => {
+            release_polys(s, &eqs);
+            release_polys(s, &nes);
+            Err(refused)
+        }
+    }
+}
