@@ -52,6 +52,16 @@ impl<I> Lane<I> {
         door.steal(rt)
     }
 
+    /// Takes the first item of the first other lane that has one.
+    pub fn steal_any<R: Wait>(&mut self, rt: &R) -> Option<I> {
+        for door in self.doors.iter_mut() {
+            if let Some(item) = door.steal(rt) {
+                return Some(item);
+            }
+        }
+        None
+    }
+
     /// Its place among the lanes.
     pub fn place(&self) -> usize
         ensures { result ≡ self.now.place }

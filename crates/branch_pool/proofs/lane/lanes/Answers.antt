@@ -11,7 +11,7 @@ doors_beside-requires g c =
     let rest = c.next.new.self.rest.items in
     let left : length c.loop-own.own-iterator.rest.items ≡ 1 + length rest = ap length c.in-Some.ensures.steps.0 ∙ omega arith in
     let whole : length c.in_ok-all_doors.all_doors.items ≡ length (ys ++ c.loop-own.own-iterator.rest.items) =
-        ap length c.loop-own.invariant.doors ∙ length-map (ys ++ c.loop-own.own-iterator.rest.items) (λ (o : End g.row.I.Denot). new_end {I = g.row.I.Denot} o.deque) in
+    ap length c.loop-own.invariant.doors ∙ length-map (ys ++ c.loop-own.own-iterator.rest.items) (λ (o : End g.row.I.Denot). new_end {I = g.row.I.Denot} o.deque) in
     let same = ap length c.as_slice-in-loop-own.ensures.value in
     omega (arith, left, whole, same, c.len-place.ensures, c.loop-own.invariant.count, length-append ys c.loop-own.own-iterator.rest.items)
 
