@@ -1,9 +1,12 @@
 //! Logs of proofs: a log as a whole value, its lines, and the text of its lines.
 #![tactic(auto)]
 
+mod cut;
+mod fields;
 mod limits;
 mod line;
 mod log;
+mod tails;
 
 pub use limits::{MOST_INDEX, MOST_PROOFS, VERSION};
 pub use line::{LineWord, LogLine};
