@@ -2,6 +2,7 @@
 use Rattle.std.proofs.Common.{◌≡◌, ◌≢◌, ℕ, List, [], ◌∷◌, ◌++◌, length, take, drop, Bool, true, false, not, ◌==◌, nat_eq, cond, refl, sym, ◌∙◌, ap, arith, subst}
 use Rattle.std.specs.List.{take_while, prefix_len}
 use Rattle.std.proofs.lemmas.Bool.{eqb-true}
+use Rattle.std.proofs.lemmas.Bool.Decides.{nat_tests}
 use Rattle.std.proofs.lemmas.Grind.{common_steps}
 use Rattle.std.proofs.lemmas.List.Sums.{take_while-cons}
 use Rattle.proof_log.specs.Cuts.{Avoids, EndsAt}
@@ -10,7 +11,7 @@ abbrev is_other : ℕ → ℕ → Bool
 is_other byte b = not (b == byte)
 
 other : (byte b : ℕ) → is_other byte b ≡ true → b ≢ byte
-other byte b e h = let p : is_other byte byte ≡ true = subst (λ x. is_other byte x ≡ true) h e in let q : nat_eq byte byte ≡ true = Rattle.std.proofs.lemmas.Bool.eqb-refl byte in let f : not true ≡ true = ap not (sym q) ∙ p in cc
+other byte b e h = let q : (b == byte) ≡ true = grind (arith, nat_tests) in let f : not true ≡ true = ap not (sym q) ∙ e in cc
 
 not_other : (byte b : ℕ) → is_other byte b ≡ false → b ≡ byte
 not_other byte b h = elim (nat_eq b byte) as (λ k. nat_eq b byte ≡ k → not k ≡ false → b ≡ byte) [ true ↦ λ e _. eqb-true b byte e | false ↦ λ _ f. cc ] refl h
