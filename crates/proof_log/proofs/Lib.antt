@@ -1,2 +1,4 @@
 mod Items
 mod Cutting
+mod Spelled
+mod Plain
