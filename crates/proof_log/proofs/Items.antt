@@ -1,21 +1,7 @@
 -- Texts of items that stand one behind the other, each behind a mark, and how they are read from the front.
 use Rattle.std.proofs.Common.{◌≡◌, ◌≢◌, ℕ, List, [], ◌∷◌, ◌++◌, refl, sym, ◌∙◌, ap, subst, append_assoc, append-nil}
 use Rattle.proof_log.specs.Cuts.{Avoids, EndsAt}
-
-pub heads : (a b : ℕ) (x y : List ℕ) → a ∷ x ≡ b ∷ y → (a ≡ b) × (x ≡ y)
-heads a b x y e = (cc, cc)
-
--- two texts up to where the byte stands
-pub same_cut : (byte : ℕ) (a b x y : List ℕ) → Avoids byte a → Avoids byte b → EndsAt byte x → EndsAt byte y → a ++ x ≡ b ++ y → (a ≡ b) × (x ≡ y)
-same_cut byte [] [] x y p q u v e = (refl, e)
-same_cut byte [] (d ∷ b) [] y p q u v e = cc
-same_cut byte [] (d ∷ b) (f ∷ x) y p q u v e = absurd (q.0 (sym (heads f d x (b ++ y) e).0 ∙ u))
-same_cut byte (d ∷ a) [] x [] p q u v e = cc
-same_cut byte (d ∷ a) [] x (f ∷ y) p q u v e = absurd (p.0 ((heads d f (a ++ x) y e).0 ∙ v))
-same_cut byte (d ∷ a) (f ∷ b) x y p q u v e =
-    let h = heads d f (a ++ x) (b ++ y) e in
-    let r = same_cut byte a b x y p.1 q.1 u v h.1 in
-    ((λ i. h.0 i ∷ r.0 i), r.1)
+use Rattle.proof_log.proofs.Bytes.{heads, cut}
 
 pub cancel : (p a b : List ℕ) → p ++ a ≡ p ++ b → a ≡ b
 cancel [] a b e = e
@@ -37,15 +23,15 @@ pub record Items (S A : Type 0) : Type 1 where
   pub ends : (x : List ℕ) → End x → EndsAt stop x
 
 module _ {S A : Type 0} (items : Items S A) where
-  pub All : S → List A → Type 0
+  unfoldable pub All : S → List A → Type 0
   All s [] = items.Done s
   All s (a ∷ xs) = items.Fits s a × All (items.next s) xs
 
-  pub text_of : S → List A → List ℕ
+  unfoldable pub text_of : S → List A → List ℕ
   text_of s [] = []
   text_of s (a ∷ xs) = items.mark s ++ (items.text a ++ text_of (items.next s) xs)
 
-  pub state : S → List A → S
+  unfoldable pub state : S → List A → S
   state s [] = s
   state s (a ∷ xs) = state (items.next s) xs
 
@@ -115,10 +101,10 @@ module _ {S A : Type 0} (items : Items S A) where
       none _ b.text
 
   -- what stands behind the mark, up to the stop
-  cut_first : (s : S) (others : List A) (rest behind word next end : List ℕ) → rest ≡ items.mark s ++ behind → behind ≡ word ++ next → Avoids items.stop word → EndsAt items.stop next
+  first_cut : (s : S) (others : List A) (rest behind word next end : List ℕ) → rest ≡ items.mark s ++ behind → behind ≡ word ++ next → Avoids items.stop word → EndsAt items.stop next
       → (b : First s others rest end) → items.End end → (word ≡ items.text b.first) × (next ≡ text_of (items.next s) b.more ++ end)
-  cut_first s others rest behind word next end r w v u b e =
-      same_cut items.stop word (items.text b.first) next (text_of (items.next s) b.more ++ end) v (items.plain s b.first b.fits) u (ends_behind s b.more end e)
+  first_cut s others rest behind word next end r w v u b e =
+      cut items.stop word (items.text b.first) next (text_of (items.next s) b.more ++ end) v (items.plain s b.first b.fits) u (ends_behind s b.more end e)
       (sym w ∙ cancel (items.mark s) behind _ (sym r ∙ b.text))
 
   -- no item stands behind the mark
@@ -128,7 +114,7 @@ module _ {S A : Type 0} (items : Items S A) where
   no_item start s text rest behind word next done g go r w v u none xs end f e t =
       let a = g.only xs end f e t in
       let b = first_of s a.others rest end go a.fits e a.text in
-      none b.first b.fits (cut_first s a.others rest behind word next end r w v u b e).0
+      none b.first b.fits (first_cut s a.others rest behind word next end r w v u b e).0
 
   -- one item more was read
   pub one_more : (start s : S) (text rest behind word next : List ℕ) (done : List A) (a : A) → Going start s text rest done → (items.Done s → items.End rest → ⊥) → rest ≡ items.mark s ++ behind → behind ≡ word ++ next
@@ -143,7 +129,7 @@ module _ {S A : Type 0} (items : Items S A) where
     only = λ xs end h e x.
         let l = g.only xs end h e x in
         let b = first_of s l.others rest end go l.fits e l.text in
-        let c = cut_first s l.others rest behind word next end r w v u b e in
+        let c = first_cut s l.others rest behind word next end r w v u b e in
         let same = items.same s b.first a b.fits f (sym c.0 ∙ t) in
         record { others = b.more; is = l.is ∙ ap (λ o. done ++ o) (b.is ∙ ap (λ o. o ∷ b.more) same) ∙ sym (append_assoc done (a ∷ []) b.more); fits = b.all; text = c.1 };
   }

@@ -1,4 +1,10 @@
+pub mod Bytes
+pub mod OneLog
+pub mod Fields
+pub mod OneLine
+pub mod OneText
 mod Items
 mod Cutting
 mod Spelled
 mod Plain
+mod Rows

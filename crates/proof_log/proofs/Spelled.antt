@@ -7,7 +7,7 @@ use Rattle.poly_model.specs.declared.limits.TheConstants.{MOST_LETTERS, MOST_SIZ
 use Rattle.poly_text.specs.Reading.{number_at}
 use Rattle.poly_text.proofs.Numbers.{begins_digit, number_at-sound, number_at-complete, digits_written}
 use Rattle.proof_log.specs.Text.{letter_text, minus_where}
-use Rattle.proof_log.proofs.Items.{heads}
+use Rattle.proof_log.proofs.Bytes.{heads}
 
 
 -- ---- numbers
@@ -34,10 +34,6 @@ pub number_reads : (least most n : ℕ) (text rest : List ℕ) → most < 2 ^ 12
 number_reads least most n text rest small some low none = let h = number_at-sound most text n rest (omega (arith, small)) some in (low, h.1, h.0 ∙ ap (λ t. decimal n ++ t) none ∙ append-nil (decimal n))
 
 -- ---- a multiplier: a sign and a size
-pub signed_again : (z : ℤ) → signed_by (is_negative z) (pos (unsigned_abs z)) ≡ z
-signed_again (pos n) = refl
-signed_again (negsuc n) = refl
-
 pub sign_kept : (negative : Bool) (n : ℕ) → 1 ≤ n → (is_negative (signed_by negative (pos n)) ≡ negative) × (unsigned_abs (signed_by negative (pos n)) ≡ n)
 sign_kept true zero h = absurd (omega (arith, h))
 sign_kept true (suc n) h = (refl, refl)

@@ -1,9 +1,9 @@
 -- Which fields and which rest stand behind each word.
 use Rattle.std.specs.Prelude.{◌≡◌, List, [], ◌∷◌}
-use Rattle.proof_log.specs.declared.fields.FieldKind.{FieldKind}
-use Rattle.proof_log.specs.declared.fields.FieldKind.TheVariants as kind
-use Rattle.proof_log.specs.declared.tails.TailKind.{TailKind}
-use Rattle.proof_log.specs.declared.tails.TailKind.TheVariants as tail
+use Rattle.proof_log.specs.declared.field.FieldKind.{FieldKind}
+use Rattle.proof_log.specs.declared.field.FieldKind.TheVariants as kind
+use Rattle.proof_log.specs.declared.tail.TailKind.{TailKind}
+use Rattle.proof_log.specs.declared.tail.TailKind.TheVariants as tail
 use Rattle.proof_log.specs.declared.line.LineWord.{LineWord}
 use Rattle.proof_log.specs.declared.line.LineWord.TheVariants as word
 use Rattle.proof_log.specs.Text.{Field, Version, Proofs, Conclusion, Index, Multiplier, Letters, Why, FitsField, Tail, Nothing, Poly, Names, Tried, Told}

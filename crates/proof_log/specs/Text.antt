@@ -19,10 +19,10 @@ use Rattle.proof_log.specs.declared.line.LogLine.{LogLine}
 use Rattle.proof_log.specs.declared.line.LogLine.TheVariants as line
 use Rattle.proof_log.specs.declared.line.LineWord.{LineWord}
 use Rattle.proof_log.specs.declared.line.LineWord.TheVariants as word
-pub use Rattle.proof_log.specs.declared.fields.Field.{Field}
-pub use Rattle.proof_log.specs.declared.fields.Field.TheVariants.{Version, Proofs, Conclusion, Index, Multiplier, Letters, Why}
-pub use Rattle.proof_log.specs.declared.tails.Tail.{Tail}
-pub use Rattle.proof_log.specs.declared.tails.Tail.TheVariants.{Nothing, Poly, Names, Tried, Told}
+pub use Rattle.proof_log.specs.declared.field.Field.{Field}
+pub use Rattle.proof_log.specs.declared.field.Field.TheVariants.{Version, Proofs, Conclusion, Index, Multiplier, Letters, Why}
+pub use Rattle.proof_log.specs.declared.tail.Tail.{Tail}
+pub use Rattle.proof_log.specs.declared.tail.Tail.TheVariants.{Nothing, Poly, Names, Tried, Told}
 
 -- ---- small fields: without a blank, and never empty
 

@@ -2,12 +2,14 @@
 #![tactic(auto)]
 
 mod cut;
-mod fields;
+mod field;
+mod laws;
 mod limits;
 mod line;
 mod log;
-mod tails;
+mod tail;
 
+pub use laws::texts_are_unique;
 pub use limits::{MOST_INDEX, MOST_PROOFS, VERSION};
 pub use line::{LineWord, LogLine};
 pub use log::{Log, Proof};

@@ -1,8 +1,8 @@
 use Rattle.std.proofs.Common.{◌≡◌, ◌∷◌, ◌++◌, sym, ◌∙◌, ap, map}
 use Rattle.proof_log.specs.Text.{letter_text}
-use Rattle.proof_log.proofs.Items.{heads}
+use Rattle.proof_log.proofs.Bytes.{heads}
 use Rattle.proof_log.proofs.Spelled.{no_letter}
-use Rattle.proof_log.proofs.fields.letters_of.Goals as goal
+use Rattle.proof_log.proofs.field.letters_of.Goals as goal
 
 pub returns-in_default-letter_of-clause-refuses : goal.returns-in_default-letter_of-clause-refuses
 returns-in_default-letter_of-clause-refuses c path few e =

@@ -1,13 +1,16 @@
-ghost use Rattle.std.specs.Prelude.{◌≡◌, ◌≢◌, ◌<◌, ◌≤◌, ◌^◌, ◌++◌, ◌∷◌, List, ℕ, ℤ, pos, Bool, false, length, map, decimal, IfSome, IfNone};
+ghost use Rattle.std.specs.Prelude.{◌≡◌, ◌≢◌, ◌<◌, ◌≤◌, ◌^◌, ◌++◌, ◌∷◌, List, ℕ, ℤ, pos, Bool, false, length, map, decimal, IfSome, IfNone, IfOk, MatchOption};
+ghost use Rattle.proof_log.specs.Cuts.{EndsAt};
 ghost use Rattle.poly_model.specs.Content.{signed_by};
 ghost use Rattle.poly_model.specs.declared.limits.TheConstants.{MOST_LETTERS, MOST_SIZE};
 ghost use Rattle.poly_model.specs.declared.limits.Reason.{Reason};
 ghost use Rattle.proof_log.specs.Kinds.{IsAt, AreAt};
-ghost use Rattle.proof_log.specs.Text.{Field, Multiplier, letter_text, reason_text, minus_where, field_text, FitsField};
+ghost use Rattle.proof_log.specs.Text.{Field, Multiplier, letter_text, reason_text, minus_where, field_text, FitsField, fields_text};
 
 use crate::limits::{MOST_INDEX, MOST_PROOFS, VERSION};
 use poly_model::{MOST_CONCLUSIONS, MOST_LETTERS, MOST_SIZE, Reason};
 use poly_text::read_number;
+use crate::cut::cut;
+use std::alloc::{AllocError, Global};
 use proof_steps::Path;
 
 /// A small field of a line: a version, how many proofs or which, a conclusion, an equation or a condition, a multiplier,
@@ -174,4 +177,45 @@ fn field_of(kind: FieldKind, text: &[u8]) -> Option<Field>
             None => None,
         },
     }
+}
+
+/// The text behind a blank that stands first.
+pub fn behind_blank(text: &[u8]) -> Option<&[u8]>
+    ensures { MatchOption result ((rest : List ℕ) → text.now ≢ 32 ∷ rest)
+        (λ rest. text.now ≡ 32 ∷ rest.now) }
+{
+    match text {
+        [b' ', rest @ ..] => Some(rest),
+        _ => None,
+    }
+}
+
+/// The fields that stand first, one of each kind, and the text behind them.
+pub fn fields_at<'a>(
+    alloc: Global,
+    kinds: &[FieldKind],
+    text: &'a [u8],
+) -> Result<Option<(Vec<Field>, &'a [u8])>, AllocError>
+    ensures reads { IfOk result (λ o. IfSome o (λ x. AreAt kinds.now x.0.items
+        × (text.now ≡ fields_text x.0.items ++ x.1.now))) }
+    ensures only { IfOk result (λ o. (fs : List Field) (rest : List ℕ) → AreAt kinds.now fs
+        → EndsAt 32 rest → text.now ≡ fields_text fs ++ rest
+        → MatchOption o ⊥ (λ x. (x.0.items ≡ fs) × (x.1.now ≡ rest))) }
+{
+    let mut fields = Vec::new(alloc);
+    let mut rest = text;
+    let mut left = kinds;
+    while let Some((kind, after)) = left.split_first() {
+        let Some(behind) = behind_blank(rest) else {
+            return Ok(None);
+        };
+        let (word, next) = cut(b' ', behind);
+        let Some(field) = field_of(*kind, word) else {
+            return Ok(None);
+        };
+        fields.push(field)?;
+        rest = next;
+        left = after;
+    }
+    Ok(Some((fields, rest)))
 }

@@ -3,7 +3,7 @@ use Rattle.std.specs.Int.{w128}
 use Rattle.std.proofs.lemmas.Int.{ints, to_z-of_z}
 use mir.Val.{SFits}
 use Rattle.proof_log.proofs.Spelled.{multiplier_none, multiplier_reads}
-use Rattle.proof_log.proofs.fields.multiplier_of.Goals as goal
+use Rattle.proof_log.proofs.field.multiplier_of.Goals as goal
 
 pub returns-in-Some-clause-reads : goal.returns-in-Some-clause-reads
 returns-in-Some-clause-reads c =

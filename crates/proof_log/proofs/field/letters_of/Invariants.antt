@@ -1,7 +1,7 @@
 use Rattle.std.proofs.Common.{◌≡◌, ◌++◌, ◌∷◌, ◌≤◌, length, map}
 use Rattle.poly_model.specs.declared.limits.TheConstants.{MOST_LETTERS}
 use Rattle.proof_log.specs.Text.{letter_text}
-use Rattle.proof_log.proofs.fields.letters_of.Given as goal
+use Rattle.proof_log.proofs.field.letters_of.Given as goal
 
 abbrev pub invariant-loop-letter : goal.invariant-loop-letter
 invariant-loop-letter l = record {

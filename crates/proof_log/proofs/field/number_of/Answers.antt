@@ -1,7 +1,7 @@
 use Rattle.std.proofs.Common.{sym, ◌∙◌, arith, ap, length}
 use Rattle.proof_log.proofs.Spelled.{number_none, number_low, number_more, number_reads}
 use Rattle.proof_log.proofs.Plain.{none_left, some_left}
-use Rattle.proof_log.proofs.fields.number_of.Goals as goal
+use Rattle.proof_log.proofs.field.number_of.Goals as goal
 
 pub returns-in_default-clause-refuses : goal.returns-in_default-clause-refuses
 returns-in_default-clause-refuses c = number_none c.args.least c.args.most c.args.text.now c.requires c.in_default.ensures.read
