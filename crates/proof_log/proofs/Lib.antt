@@ -5,3 +5,8 @@ pub mod OneLine
 pub mod OneText
 pub mod ShortTerms
 pub mod Short
+mod Items
+mod Cutting
+mod Spelled
+mod Plain
+mod Rows

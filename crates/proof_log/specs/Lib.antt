@@ -1,3 +1,5 @@
 pub mod Lines
 pub mod Text
 pub mod Lengths
+pub mod Cuts
+pub mod Kinds

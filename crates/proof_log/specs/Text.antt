@@ -19,16 +19,12 @@ use Rattle.proof_log.specs.declared.line.LogLine.{LogLine}
 use Rattle.proof_log.specs.declared.line.LogLine.TheVariants as line
 use Rattle.proof_log.specs.declared.line.LineWord.{LineWord}
 use Rattle.proof_log.specs.declared.line.LineWord.TheVariants as word
+pub use Rattle.proof_log.specs.declared.field.Field.{Field}
+pub use Rattle.proof_log.specs.declared.field.Field.TheVariants.{Version, Proofs, Conclusion, Index, Multiplier, Letters, Why}
+pub use Rattle.proof_log.specs.declared.tail.Tail.{Tail}
+pub use Rattle.proof_log.specs.declared.tail.Tail.TheVariants.{Nothing, Poly, Names, Tried, Told}
 
 -- ---- small fields: without a blank, and never empty
-pub data Field : Type 0 where
-  Version : ℕ → Field
-  Proofs : ℕ → Field  -- how many proofs, or which
-  Conclusion : ℕ → Field
-  Index : ℕ → Field  -- of an equation or a condition
-  Multiplier : ℤ → Field
-  Letters : List Bool → Field
-  Why : Reason → Field
 
 abbrev pub letter_text : Bool → ℕ
 letter_text true = 43
@@ -72,12 +68,6 @@ FitFields [] = Unit {0}
 FitFields (f ∷ fs) = FitsField f × FitFields fs
 
 -- ---- the rest of a line
-pub data Tail : Type 0 where
-  Nothing : Tail
-  Poly : Polynomial → Tail
-  Names : List VarName → Tail
-  Tried : Attempt → Tail
-  Told : Verdict → Tail
 
 abbrev pub FitsPoly : List VarName → Polynomial → Type 0
 FitsPoly names p = IsTrue (is_standard p) × IsTrue (is_over (length names) p)

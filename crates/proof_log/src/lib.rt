@@ -1,10 +1,13 @@
 //! Logs of proofs: a log as a whole value, its lines, and the text of its lines.
 #![tactic(auto)]
 
+mod cut;
+mod field;
 mod laws;
 mod limits;
 mod line;
 mod log;
+mod tail;
 
 pub use laws::{texts_are_short, texts_are_unique};
 pub use limits::{MOST_INDEX, MOST_PROOFS, VERSION};
