@@ -5,6 +5,7 @@ pub mod OneLine
 pub mod OneText
 pub mod ShortTerms
 pub mod Short
+pub mod Written
 mod Items
 mod Cutting
 mod Spelled
