@@ -6,6 +6,7 @@ pub mod OneText
 pub mod ShortTerms
 pub mod Short
 pub mod Written
+pub mod Whole
 mod Items
 mod Cutting
 mod Spelled

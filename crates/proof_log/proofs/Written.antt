@@ -29,3 +29,6 @@ module _ {X : Type 0} (text : X → List ℕ) (xs : List X) (i : ℕ) (item : X)
 
   pub item_split : i < length xs → item ≡ get_or xs i item → flat_map text xs ≡ flat_map text (take i xs) ++ text item ++ flat_map text (drop (i + 1) xs)
   item_split lt is = pieces_split text xs i item lt ∙ ap (λ x. flat_map text (take i xs) ++ text x ++ flat_map text (drop (i + 1) xs)) (sym is)
+
+pub all_first : {X : Type 0} (P : X → Type 0) (xs ys : List X) (x : X) → xs ≡ x ∷ ys → All P xs → P x
+all_first P xs ys x e h = subst (All P) e h 0 x (omega arith)

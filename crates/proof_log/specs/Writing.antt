@@ -1,5 +1,5 @@
 -- The text of a log as it is written, part by part, over the variables of each problem.
-use Rattle.std.specs.Prelude.{ℕ, suc, List, [], ◌∷◌, ◌++◌, codes, decimal}
+use Rattle.std.specs.Prelude.{ℕ, suc, List, [], ◌∷◌, ◌++◌, codes, decimal, length}
 use Rattle.std.specs.List.{flat_map}
 use Rattle.poly_model.specs.Polynomial.{Polynomial}
 use Rattle.poly_model.specs.declared.vars.VarName.{VarName}
@@ -72,7 +72,7 @@ piece_text names p = whole_line names (line.Node p.path) ++ flat_map (step_text 
 abbrev pub problem_text : Problem → List ℕ
 problem_text p = whole_line p.vars (line.Vars p.vars) ++ polynomials_text word.Hyp p.vars p.hyps ++ polynomials_text word.Con p.vars p.cons
 
--- A line with a number of proofs.
+-- A line with a number.
 abbrev pub count_text : LineWord → ℕ → List ℕ
 count_text word n = word_text word ++ codes " " ++ decimal n ++ codes "\n"
 
@@ -85,3 +85,6 @@ proof_text k p =
 abbrev pub proofs_text : ℕ → List Proof → List ℕ
 proofs_text k [] = []
 proofs_text k (p ∷ ps) = proof_text k p ++ proofs_text (suc k) ps
+
+abbrev pub log_text : ℕ → List Proof → List ℕ
+log_text version ps = count_text word.Head version ++ count_text word.Proves (length ps) ++ proofs_text 1 ps ++ codes "end\n"

@@ -18,3 +18,4 @@ pub use limits::{MOST_INDEX, MOST_PROOFS, VERSION};
 pub use line::{LineWord, LogLine};
 pub use line_writing::write_verdict;
 pub use log::{Log, Proof};
+pub use writing::write_log;

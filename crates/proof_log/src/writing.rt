@@ -274,7 +274,7 @@ fn write_problem<S: Sink>(problem: &Problem, pen: &mut Pen, sink: &mut S) -> Res
     write_polynomials(LineWord::Con, problem.cons.as_slice(), vars, pen, sink)
 }
 
-/// Writes a line with a number of proofs.
+/// Writes a line with a number.
 fn write_count<S: Sink>(
     word: LineWord,
     n: usize,
@@ -307,4 +307,36 @@ fn write_proof<S: Sink>(
     write_problem(&proof.problem, pen, sink)?;
     write_pieces(proof.tree.pieces.as_slice(), vars, pen, sink)?;
     write_row(LineWord::Verdict, &[], Rest::Told(&proof.verdict), vars, pen, sink)
+}
+
+/// Writes proofs, numbered from 1.
+fn write_proofs<S: Sink>(proofs: &[Proof], pen: &mut Pen, sink: &mut S) -> Result<(), Failed>
+    requires { All IsOwn proofs.now }
+    ensures bytes { Writes (S.written sink.old) (S.written sink.new) pen.old pen.new result
+        (proofs_text 1 proofs.now) }
+    ensures cause { HasCause (S.faults sink.old) (S.faults sink.new) result }
+{
+    let mut number = 1;
+    let mut rest = proofs;
+    while let Some((proof, others)) = rest.split_first() {
+        write_proof(number, proof, pen, sink)?;
+        number += 1;
+        rest = others;
+    }
+    Ok(())
+}
+
+/// Writes the text of a log of the newest version, of which each polynomial that is written has only the variables of its
+/// problem. It takes no memory.
+pub fn write_log<S: Sink>(log: &Log, pen: &mut Pen, sink: &mut S) -> Result<(), Failed>
+    requires { All IsOwn log.now.proofs }
+    ensures bytes { Writes (S.written sink.old) (S.written sink.new) pen.old pen.new result
+        (text_of [] (log_lines VERSION log.now.proofs)) }
+    ensures cause { HasCause (S.faults sink.old) (S.faults sink.new) result }
+{
+    let proofs = log.proofs.as_slice();
+    write_count(LineWord::Head, VERSION as usize, pen, sink)?;
+    write_count(LineWord::Proves, proofs.len(), pen, sink)?;
+    write_proofs(proofs, pen, sink)?;
+    pen.push(sink, b"end\n")
 }
