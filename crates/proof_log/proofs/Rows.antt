@@ -1,16 +1,15 @@
 -- Fields, variables and polynomials as items that stand one behind the other.
-use Rattle.std.proofs.Common.{◌≡◌, ◌≢◌, ℕ, ◌≤◌, List, [], ◌∷◌, ◌++◌, length, Bool, true, false, refl, sym, ◌∙◌, ap, subst, append-nil, append_assoc, arith}
+use Rattle.std.proofs.Common.{◌≡◌, ◌≢◌, ℕ, ◌≤◌, List, [], ◌∷◌, ◌++◌, length, Bool, true, false, refl, sym, ◌∙◌, ap, subst, arith}
 use Rattle.std.specs.Prelude.{codes}
 use Rattle.poly_model.specs.Names.{are_variables, number}
 use Rattle.poly_model.specs.Polynomial.{Polynomial}
 use Rattle.poly_model.specs.declared.vars.VarName.{VarName}
 use Rattle.poly_text.specs.Text.{poly_text, variable_text}
 use Rattle.poly_text.proofs.Factors.{Named}
-use Rattle.poly_text.proofs.Unique.{named}
 use Rattle.proof_log.specs.declared.field.FieldKind.{FieldKind}
 use Rattle.proof_log.specs.Cuts.{Avoids, EndsAt}
-use Rattle.proof_log.specs.Kinds.{IsAt, AreAt, kind_of}
-use Rattle.proof_log.specs.Text.{Field, field_text, FitsField, fields_text, FitFields, FitsPoly, FitPolys, more_text, polys_text}
+use Rattle.proof_log.specs.Kinds.{IsAt, AreAt}
+use Rattle.proof_log.specs.Text.{Field, field_text, FitsField, fields_text, FitsPoly}
 use Rattle.proof_log.proofs.Bytes.{high-blank, poly-semicolon}
 use Rattle.proof_log.proofs.Fields.{field-high, same-field}
 use Rattle.proof_log.proofs.OneLine.{name-high, names_text, same-name, same-poly}

@@ -8,7 +8,6 @@ mod limits;
 mod line;
 mod line_writing;
 mod log;
-
 mod tail;
 mod words;
 mod writing;
