@@ -1,11 +1,11 @@
 -- The tally of the pieces of a tree tells the tree's verdict.
-use Rattle.std.proofs.Common.{◌≡◌, ℕ, ◌<◌, ◌≤◌, zero, suc, List, [], ◌∷◌, ◌++◌, length, map, replicate, get_or, refl, sym, ◌∙◌, ap, subst, arith, Bool, true, false, cond, ◌&&◌, ◌||◌, not, inl, inr, ◌⊎◌, append_assoc}
+use Rattle.std.proofs.Common.{◌≡◌, ℕ, ◌<◌, ◌≤◌, zero, suc, List, [], ◌∷◌, ◌++◌, length, map, replicate, get_or, refl, sym, ◌∙◌, ap, subst, arith, Bool, true, false, cond, ◌&&◌, not, inl, inr, ◌⊎◌}
 use Rattle.std.specs.Prelude.{is_none, unwrap_or, Option, Some, None, filter, find, if◌then◌else◌}
 use Rattle.std.proofs.lemmas.Bool.{and_parts, and_from, not_from_false}
 use Rattle.std.proofs.lemmas.List.{append-nil}
 use Rattle.poly_model.specs.Polynomial.{Polynomial}
 use Rattle.proof_steps.specs.Numbers.{item, replaced}
-use Rattle.poly_model.specs.Reduction.{same, has_polynomial, primitive_initial, primitive_tail}
+use Rattle.poly_model.specs.Reduction.{primitive_initial, primitive_tail}
 use Rattle.proof_steps.specs.Rules.{plus_child, minus_child, size_of}
 use Rattle.proof_steps.specs.Trees.{same_path, children, are_trees, root_of, is_tree_of}
 use Rattle.proof_steps.specs.declared.piece.Node.{Node}
@@ -14,12 +14,11 @@ use Rattle.proof_steps.specs.declared.problem.Problem.{Problem}
 use Rattle.proof_steps.specs.declared.piece.LeafStatus.TheVariants as status
 use Rattle.proof_steps.specs.declared.piece.Outcome.{Outcome}
 use Rattle.proof_steps.specs.declared.piece.Outcome.TheVariants as outcome
-use Rattle.verdicts.specs.Verdicts.{has_minus, plus_part, gain_of, is_leaf, gain_in, gain_at, generic_leaf, is_unproved, without_repeats, conditions, verdict_by, verdict_of}
+use Rattle.verdicts.specs.Verdicts.{has_minus, plus_part, gain_of, is_leaf, gain_in, gain_at, generic_leaf, is_unproved, conditions, verdict_by, verdict_of}
 use Rattle.verdicts.specs.Tallies.{Ending, Parts, Empty, Proves, Remains, Stops, ending_of, leaves_some, Tally, no_tally, added, tally_after, tally_of, verdict_at, verdict_told}
 use Rattle.verdicts.proofs.Repeats.{added_all, added-repeats}
 use Rattle.verdicts.specs.declared.verdict.Verdict.{Verdict}
 use Rattle.verdicts.specs.declared.verdict.Verdict.TheVariants as verdict
-use Rattle.poly_model.specs.Equality.{same-is}
 use Rattle.proof_steps.proofs.Following.{same_path-self, Fits, end-path, by_first}
 use Rattle.assurance.proofs.Paths.{lead, minus-append, plus-append, plus_part-is, replicate-length, replicate-last, all_plus, Below, below-more}
 
