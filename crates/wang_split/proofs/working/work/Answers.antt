@@ -1,4 +1,4 @@
-use Rattle.std.proofs.Common.{◌≤◌, List, sym, subst, arith}
+use Rattle.std.proofs.Common.{◌≤◌, ◌∙◌, List, sym, subst, arith}
 use Rattle.poly_model.specs.Polynomial.{Polynomial}
 use Rattle.term_store.specs.Changes.{Keeps}
 use Rattle.proof_steps.specs.Rules.{size_of}
@@ -31,7 +31,7 @@ returns-in_default g c =
     let turn = benches.turn (beneath s0 c.args.bench.now) s t b c.loop-attempt.invariant.stands k in
     record {
       stands = (benches.kept (beneath s0 c.args.bench.now) s t b c.loop-attempt.invariant.stands k).stands;
-      halted = turns.ended n (node_at s b) (node_at t b) c.loop-attempt.steps.items c.due-next.result turn.node c.loop-attempt.invariant.whole c.due-next.ensures.next;
+      halted = turns.ended n (node_at s b) (node_at t b) c.loop-attempt.steps.items c.due-next.result turn.node c.loop-attempt.invariant.whole c.due-next.ensures.next (turns.no-rule c.due-next.result c.in_default.not-Try);
     }
 
 pub returns-then-not-is_step-clause-stands : goal.returns-then-not-is_step-clause-stands
@@ -54,7 +54,7 @@ returns-then-not-is_step-clause-halted g c =
     let n = node_at s0 c.args.bench.now in
     let k : Keeps s t = c.in-Try.ensures.kept in
     let turn = benches.turn (beneath s0 c.args.bench.now) s t b c.loop-attempt.invariant.stands k in
-    turns.ended n (node_at s b) (node_at t b) c.loop-attempt.steps.items (Try c.in-Try.attempt) turn.node c.loop-attempt.invariant.whole c.in-Try.ensures.next
+    turns.ended n (node_at s b) (node_at t b) c.loop-attempt.steps.items (Try c.in-Try.attempt) turn.node c.loop-attempt.invariant.whole c.in-Try.ensures.next (sym c.is_step.ensures ∙ c.if-not-is_step.true)
 
 pub take-requires-clause-stands : goal.take-requires-clause-stands
 take-requires-clause-stands g c =
