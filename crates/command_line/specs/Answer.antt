@@ -1,5 +1,5 @@
 -- What the program answers to its words, over the files that they name: a status, and the bytes on each sink.
-use Rattle.std.specs.Prelude.{ℕ, List, [], ◌∷◌, length, get_or, map, Option, Some, None, Result, Ok, Err, cond, nat_lt, codes}
+use Rattle.std.specs.Prelude.{◌≡◌, ℕ, List, [], ◌∷◌, length, get_or, map, Option, Some, None, Result, Ok, Err, true, false, cond, nat_lt, codes}
 use Rattle.std.specs.Str.{bytes_eq}
 use Rattle.desk_io.specs.Files.{Files, file_of}
 use Rattle.gcl_reader.specs.declared.refusal.Refusal.{Refusal}
@@ -32,44 +32,44 @@ abbrev pub too_large : Answer
 too_large = only_notes TooLarge (codes "too large\n")
 
 -- ---- forms
+-- A form of the command line, with its words behind the first: a text that a command makes of a file, or a log that is
+-- checked, by itself or against a file.
+pub data Form : Type 0 where
+  TextOf : Command → (file : List ℕ) → Form
+
 -- A file that a form names, and the most bytes that it may have.
 pub record Source : Type 0 where
   pub name : List ℕ
   pub most : ℕ
 
--- A form of the command line: the files that it names, in the order in which they are read, and its answer over their
--- bytes.
-pub record Form : Type 0 where
-  pub sources : List Source
-  pub over : List (List ℕ) → Answer
+abbrev pub source : List ℕ → ℕ → Source
+source name most = record { name = name; most = most }
 
--- The answer over a file of at most so many bytes: what comes next sees the bytes.
-abbrev pub of_file : ℕ → Option (List ℕ) → (List ℕ → Answer) → Answer
-of_file most None next = read_fault
-of_file most (Some bytes) next = cond (nat_lt most (length bytes)) too_large (next bytes)
+-- The files of a form, in the order in which they are read.
+abbrev pub sources_of : Form → List Source
+sources_of (TextOf command file) = source file MOST_BYTES ∷ []
 
--- The answer over several files, which are read one after another: the first that cannot be read, or is too large, decides.
-abbrev pub of_sources : List Source → (List (List ℕ) → Answer) → Files → Answer
-of_sources [] over files = over []
-of_sources (s ∷ sources) over files =
-    of_file s.most (file_of files s.name) (λ bytes. of_sources sources (λ others. over (bytes ∷ others)) files)
-
--- ---- forms of text
+-- ---- answers over the bytes of the files
 -- A text is written whole, or the file is refused.
 abbrev pub answer_from : List ℕ → Result (List ℕ) Refusal → Answer
 answer_from bytes (Ok text) = record { status = Done; out = text; notes = [] }
 answer_from bytes (Err refusal) = only_notes Refused (refusal_line bytes refusal)
 
--- The bytes of the first file.
-abbrev pub first_file : List (List ℕ) → List ℕ
-first_file files = get_or files 0 []
+-- The answer of a form over the bytes of its files.
+abbrev pub IsAnswerOver : Form → List (List ℕ) → Answer → Type 0
+IsAnswerOver (TextOf command file) files a = a ≡ answer_from (get_or files 0 []) (command (get_or files 0 []))
 
--- The form of a command that makes a text of one file.
-abbrev pub text_form : Command → List ℕ → Form
-text_form command name = record {
-  sources = record { name = name; most = MOST_BYTES } ∷ [];
-  over = λ files. answer_from (first_file files) (command (first_file files));
-}
+-- The answer over a file of at most so many bytes: what comes next sees the bytes.
+abbrev pub OfFile : ℕ → Option (List ℕ) → (List ℕ → Answer → Type 0) → Answer → Type 0
+OfFile most None Next a = a ≡ read_fault
+OfFile most (Some bytes) Next a = elim (nat_lt most (length bytes)) [ true ↦ a ≡ too_large | false ↦ Next bytes a ]
+
+-- The answer over several files, which are read one after another: the first that cannot be read, or is too large,
+-- decides.
+abbrev pub OfSources : List Source → (List (List ℕ) → Answer → Type 0) → Files → Answer → Type 0
+OfSources [] Over files a = Over [] a
+OfSources (s ∷ sources) Over files a =
+    OfFile s.most (file_of files s.name) (λ bytes b. OfSources sources (λ others c. Over (bytes ∷ others) c) files b) a
 
 -- ---- the table of forms
 -- A row: the first word, and the form that it begins with the words behind it, where there is one.
@@ -80,7 +80,7 @@ pub record Row : Type 0 where
 -- The words behind the first are the name of a file.
 abbrev pub one_file : Command → List (List ℕ) → Option Form
 one_file command [] = None
-one_file command (name ∷ []) = Some (text_form command name)
+one_file command (name ∷ []) = Some (TextOf command name)
 one_file command (name ∷ other ∷ words) = None
 
 -- All forms.
@@ -103,15 +103,12 @@ form_of [] = None
 form_of (word ∷ words) = form_in rows word words
 
 -- ---- the answer
-abbrev pub answer_of : Option Form → Files → Answer
-answer_of None files = usage
-answer_of (Some form) files = of_sources form.sources form.over files
-
--- What the program answers to its words, over files.
-abbrev pub answer : List (List ℕ) → Files → Answer
-answer words files = answer_of (form_of words) files
+-- What the program answers to a form over files.
+abbrev pub IsAnswer : Option Form → Files → Answer → Type 0
+IsAnswer None files a = a ≡ usage
+IsAnswer (Some form) files a = OfSources (sources_of form) (IsAnswerOver form) files a
 
 -- The names of the files that a form reads.
 abbrev pub names_of : Option Form → List (List ℕ)
 names_of None = []
-names_of (Some form) = map (λ (s : Source). s.name) form.sources
+names_of (Some form) = map (λ (s : Source). s.name) (sources_of form)

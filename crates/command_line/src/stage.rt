@@ -5,9 +5,9 @@ ghost use Rattle.desk_io.specs.Causes.{HasCause, Rose};
 ghost use Rattle.desk_io.specs.Files.{Files, Holds, Lacks, file_of};
 ghost use Rattle.gcl_reader.specs.Grammar.{Gives};
 ghost use Rattle.gcl_reader.specs.declared.refusal.Refusal.{Refusal};
-ghost use Rattle.command_line.specs.Answer.{Answer, only_notes, of_file, answer_from};
+ghost use Rattle.command_line.specs.Answer.{Answer, only_notes, OfFile, answer_from};
 ghost use Rattle.command_line.specs.Command.{Command};
-ghost use Rattle.command_line.specs.Run.{Ends, Answers, IsSilent};
+ghost use Rattle.command_line.specs.Run.{Ends, Answers};
 ghost use Rattle.command_line.specs.Contract.{IsQuiet};
 ghost use Rattle.command_line.specs.Statuses.{IsReadingFault, IsWritingStatus};
 
@@ -83,10 +83,9 @@ pub fn fetch<K: Desk, N: Sink>(
     ensures fits { IfOk result (λ bytes. vec_len bytes ≤ most) }
     ensures absent { Lacks (K.held desk.old) name.now → OnOk result ⊥ }
     ensures untouched { OnOk result (notes.new ≡ notes.old) }
-    ensures over { IfErr result (λ status. (next : Files → List ℕ → Answer) (out : Option (List ℕ))
-        → ((files : Files) (bytes : List ℕ) → IsSilent (next files bytes))
+    ensures over { IfErr result (λ status. (Next : Files → List ℕ → Answer → Type 0) (out : Option (List ℕ))
         → Answers (K.held desk.old) (Rose (K.faults desk.old) (K.faults desk.new))
-        (λ files. of_file most (file_of files name.now) (next files))
+        (λ files a. OfFile most (file_of files name.now) (Next files) a)
         out out (N.written notes.old) (N.written notes.new) status) }
     ensures fault { IfErr result IsReadingFault }
     ensures unsaid { IsErrOf result Status.OutOfMemory → notes.new ≡ notes.old }
