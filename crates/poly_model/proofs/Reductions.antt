@@ -13,7 +13,6 @@ use Rattle.poly_model.proofs.Ordered.{descending-product, descending-difference}
 use Rattle.poly_model.proofs.Contents as contents
 use Rattle.poly_model.proofs.Rows.{bounded_rows-are, rows-are, within-is}
 use Rattle.poly_model.proofs.Parts.{descending-part, descending-without, descending-shifted}
-use Rattle.poly_model.proofs.Scaled.{parts-times, parts-some}
 
 pub descending-initial : (n : ℕ) (f : Polynomial) → IsDescending n f → IsDescending n (initial_of f)
 descending-initial n f h = descending-part n (main_place f) (main_degree f) f h
@@ -78,14 +77,11 @@ module _ {M : Type 0} {o : Operations M} (L : IsDomain o) where
       ∙ ap (o.add (o.mul (v I point) (v g point))) (sym (ring.zero_add L.ring (o.neg o.zero)) ∙ L.ring.add_neg o.zero)
       ∙ L.ring.add_zero _
 
-  pub reduction-zeros : (n : ℕ) (g f : Polynomial) (point : List M) → IsDescending n g → IsDescending n f → v f point ≡ o.zero → v (initial_of f) point ≢ o.zero
+  -- where f is zero and its initial is not, g is zero exactly if its reduction is
+  pub reduction-zeros : (g f : Polynomial) (point : List M) → v f point ≡ o.zero → v (initial_of f) point ≢ o.zero
       → v g point ≡ o.zero ↔ v (reduction_of g f).1 point ≡ o.zero
-  reduction-zeros n g f point hg hf h i =
-      let T = cross_difference g f in
-      let some = parts-some n T (descending-cross n g f hg hf) in
-      let same = ap (λ p. v p point) (parts-times T) in (
-        (λ z. contents.zero-of_scaled L (parts_of T).0 (parts_of T).1 point some
-            (sym same ∙ at_zero g f point h ∙ ap (o.mul (v (initial_of f) point)) z ∙ ring.mul_zero L.ring _)),
-        (λ z. contents.other_factor L (v (initial_of f) point) (v g point)
-            (sym (at_zero g f point h) ∙ same ∙ contents.zero-scaled L (parts_of T).0 (parts_of T).1 point z) i),
+  reduction-zeros g f point h i =
+      let primitive = contents.primitive_part-zero L (cross_difference g f) point in (
+        (λ z. primitive.0 (at_zero g f point h ∙ ap (o.mul (v (initial_of f) point)) z ∙ ring.mul_zero L.ring _)),
+        (λ z. contents.other_factor L (v (initial_of f) point) (v g point) (sym (at_zero g f point h) ∙ primitive.1 z) i),
       )

@@ -151,8 +151,7 @@ pub fn divisions_are_exact()
 
 /// Where a polynomial is zero and its initial is not, an elementary reduction by it keeps the zeros.
 pub fn reductions_keep_zeros<D: Domain>(_domain: &D)
-    ensures { (n : ℕ) (g f : Polynomial) (point : List D.Member) → IsDescending n g
-        → IsDescending n f
+    ensures { (g f : Polynomial) (point : List D.Member)
         → value_at D.operations f point ≡ D.operations.zero
         → value_at D.operations (initial_of f) point ≢ D.operations.zero
         → value_at D.operations g point ≡ D.operations.zero

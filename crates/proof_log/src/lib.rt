@@ -1,10 +1,12 @@
 //! Logs of proofs: a log as a whole value, its lines, and the text of its lines.
 #![tactic(auto)]
 
+mod laws;
 mod limits;
 mod line;
 mod log;
 
+pub use laws::{texts_are_short, texts_are_unique};
 pub use limits::{MOST_INDEX, MOST_PROOFS, VERSION};
 pub use line::{LineWord, LogLine};
 pub use log::{Log, Proof};

@@ -1,2 +1,4 @@
 pub mod Word
+pub mod Paths
 pub mod Search
+pub mod Following

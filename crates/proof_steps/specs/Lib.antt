@@ -1,4 +1,5 @@
 pub mod Letters
+pub mod Paths
 pub mod Numbers
 pub mod Reasons
 pub mod Rules
@@ -6,3 +7,4 @@ pub mod Chain
 pub mod Work
 pub mod Trees
 pub mod Leaves
+pub mod Left

@@ -1,10 +1,11 @@
 -- Trees of pieces: which list of pieces is the tree of a node, and the tree that the order of work gives.
-use Rattle.std.specs.Prelude.{ℕ, zero, suc, ◌-◌, List, [], ◌∷◌, ◌++◌, Bool, true, false, if◌then◌else◌, ◌&&◌, not, nat_le, Option, Some, None}
+use Rattle.std.specs.Prelude.{ℕ, zero, suc, ◌-◌, List, [], ◌∷◌, ◌++◌, Bool, true, false, if◌then◌else◌, ◌&&◌, nat_le, Option, Some, None}
 use Rattle.std.specs.List.{flat_map}
 use Rattle.poly_model.specs.Polynomial.{Polynomial}
 use Rattle.poly_model.specs.Reduction.{same, is_nonzero_constant, primitive_initial, primitive_tail, reduction_of}
 use Rattle.proof_steps.specs.Numbers.{item, has}
 use Rattle.proof_steps.specs.Reasons.{same_reason}
+pub use Rattle.proof_steps.specs.Paths.{same_path}
 use Rattle.proof_steps.specs.Rules.{is_valid, is_triangular, size_of, made, reason_of, attempt_of, tells_result, stepped}
 use Rattle.proof_steps.specs.Chain.{chain_fits, chain_of}
 use Rattle.proof_steps.specs.Work.{Next, Try, Closed, Clashed, Solved, next}
@@ -30,14 +31,7 @@ abbrev pub after_steps : ℕ → Node → List Step → Option Node
 after_steps version n [] = Some n
 after_steps version n (s ∷ steps) = elim (step_fits version n s) [ true ↦ after_steps version (stepped n s) steps | false ↦ None ]
 
--- The same letters, the same list of polynomials.
-abbrev pub same_path : List Bool → List Bool → Bool
-same_path [] [] = true
-same_path [] (b ∷ bs) = false
-same_path (a ∷ as') [] = false
-same_path (true ∷ as') (b ∷ bs) = b && same_path as' bs
-same_path (false ∷ as') (b ∷ bs) = not b && same_path as' bs
-
+-- The same list of polynomials.
 abbrev pub same_list : List Polynomial → List Polynomial → Bool
 same_list [] [] = true
 same_list [] (q ∷ qs) = false
@@ -153,6 +147,6 @@ tree_within (suc k) version cons n =
 abbrev pub tree_at : ℕ → List Polynomial → Node → List Piece
 tree_at version cons n = tree_within n.fuel version cons n
 
--- The tree of a problem; nothing where the fuel is less than the size of the root.
+-- The tree of a problem, where the fuel is at least the size of the root.
 abbrev pub tree_of : ℕ → Problem → ℕ → List Piece
 tree_of version problem fuel = tree_at version problem.cons (root_of problem fuel)

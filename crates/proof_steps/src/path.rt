@@ -1,6 +1,8 @@
 ghost use Rattle.std.specs.Prelude.{◌≡◌, ◌<◌, ◌≤◌, ◌++◌, ◌∷◌, [], length, get_or};
+ghost use Rattle.proof_steps.specs.Paths.{same_path, preorder_cmp};
 
 use poly_model::MOST_LETTERS;
+use std::cmp::Ordering;
 use std::marker::Model;
 
 /// The place of a node in its tree: for each split above it whether the node is below its `+` child. Contracts see the
@@ -67,5 +69,33 @@ impl Path {
     {
         let letters = &self.letters;
         letters[i]
+    }
+
+    /// Whether both are one path.
+    pub fn is(&self, other: &Path) -> bool
+        ensures { result ≡ same_path self.now other.now }
+    {
+        self.letters() == other.letters()
+    }
+
+    /// The order in preorder: a path stands before those below it, and those below its `+` child stand before those
+    /// below its `-` child.
+    pub fn preorder(&self, other: &Path) -> Ordering
+        ensures { result ≡ preorder_cmp self.now other.now }
+    {
+        let (mine, theirs) = (self.letters(), other.letters());
+        for i in 0..mine.len().min(theirs.len()) {
+            let found = theirs[i].cmp(&mine[i]);
+            if found.is_ne() {
+                return found;
+            }
+        }
+        mine.len().cmp(&theirs.len())
+    }
+
+    fn letters(&self) -> &[bool]
+        ensures { result.now ≡ self.now }
+    {
+        &self.letters[..self.len as usize]
     }
 }

@@ -1,0 +1,6 @@
+pub mod Replays
+pub mod Rooms
+pub mod Idles
+pub mod Always
+pub mod Moves
+pub mod Conserved
