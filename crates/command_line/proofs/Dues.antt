@@ -2,7 +2,7 @@
 use Rattle.std.proofs.Common.{◌≡◌, ◌<◌, ◌⊎◌, List, ℕ, length, Option, None, Some, Bool, true, false, nat_lt, inl, inr, sym, ◌∙◌, ap, refl, subst, arith}
 use Rattle.std.proofs.lemmas.Option.{same_Some}
 use Rattle.desk_io.specs.Files.{Files, Holds, Lacks, file_of, known_at}
-use Rattle.command_line.specs.Answer.{Answer, OfFile, read_fault, too_large}
+use Rattle.command_line.specs.Answer.{Answer, OfFile, OfFileAlone, read_fault, too_large}
 use Rattle.command_line.specs.Run.{Due, IsSilent, Ends, Answers}
 use Rattle.command_line.specs.declared.status.Status.{Status}
 use Rattle.command_line.specs.declared.status.Status.TheVariants.{WriteFault}
@@ -77,3 +77,46 @@ of_read held files name most bytes Next a e whole there fits next = by (file_of 
   by (Some file) f =
       subst (λ o. OfFile most o Next a) (sym f)
       (subst (λ b. OfFile most (Some b) Next a) (whole file (some_held held files name (Some file) e f)) (within most bytes Next a (nat_lt most (length bytes)) refl fits next))
+
+alone_by : (bytes : List ℕ) (Next : List ℕ → Answer → Type 0) (a : Answer) (t : Bool) → elim t as (λ _. Type 0) [ true ↦ a ≡ too_large | false ↦ ⊥ ]
+    → elim t as (λ _. Type 0) [ true ↦ a ≡ too_large | false ↦ Next bytes a ]
+alone_by bytes Next a true e = e
+alone_by bytes Next a false e = absurd e
+
+-- where the file alone decides, nothing comes next
+pub alone : (most : ℕ) (o : Option (List ℕ)) (Next : List ℕ → Answer → Type 0) (a : Answer) → OfFileAlone most o a → OfFile most o Next a
+alone most None Next a e = e
+alone most (Some bytes) Next a e = alone_by bytes Next a (nat_lt most (length bytes)) e
+
+passed : (held : Option Files) (rose rose' : Type 0) (Of Of' : Files → Answer → Type 0) (answer : Answer) (files : Files) → (rose → rose')
+    → (Of files answer → Of' files answer) → Of files answer ⊎ (rose × (answer ≡ read_fault)) → Of' files answer ⊎ (rose' × (answer ≡ read_fault))
+passed held rose rose' Of Of' answer files later over (inl of) = inl (over of)
+passed held rose rose' Of Of' answer files later over (inr r) = inr (later r.0, r.1)
+
+-- what a later stage answers, the whole call answers
+pub passed_on : (held held' : Option Files) (rose rose' : Type 0) (Of Of' : Files → Answer → Type 0) (out_old out_new notes_old notes_new : Option (List ℕ)) (status : Status)
+    → held' ≡ held → (rose → rose') → ((files : Files) → held ≡ Some files → (a : Answer) → Of files a → Of' files a)
+    → Answers held' rose Of out_old out_new notes_old notes_new status → Answers held rose' Of' out_old out_new notes_old notes_new status
+passed_on held held' rose rose' Of Of' out_old out_new notes_old notes_new status same later over (inl g) = inl (record {
+  answer = g.answer;
+  due = record {
+    silent = g.due.silent;
+    proper = g.due.proper;
+    told = λ files e. passed held rose rose' Of Of' g.answer files later (over files e g.answer) (g.due.told files (same ∙ e));
+  };
+  ends = g.ends;
+})
+passed_on held held' rose rose' Of Of' out_old out_new notes_old notes_new status same later over (inr n) = inr n
+
+-- the file was read, and an answer over its bytes is given
+pub read_and_given : (held : Option Files) (rose : Type 0) (name : List ℕ) (most : ℕ) (bytes : List ℕ) (Next : List ℕ → Answer → Type 0) (answer : Answer)
+    (out_old out_new notes_old notes_read notes_new : Option (List ℕ)) (status : Status)
+    → IsSilent answer → (answer.status ≡ WriteFault → ⊥) → Next bytes answer
+    → ((file : List ℕ) → Holds held name file → bytes ≡ file) → (Lacks held name → ⊥) → (most < length bytes → ⊥) → notes_read ≡ notes_old
+    → Ends answer out_old out_new notes_read notes_new status
+    → Answers held rose (λ files a. OfFile most (file_of files name) Next a) out_old out_new notes_old notes_new status
+read_and_given held rose name most bytes Next answer out_old out_new notes_old notes_read notes_new status silent proper next whole there fits unsaid ends =
+    given held rose (λ files a. OfFile most (file_of files name) Next a) answer out_old out_new notes_old notes_new status
+    (due_over held rose (λ files a. OfFile most (file_of files name) Next a) answer silent proper
+    (λ files e. of_read held files name most bytes Next answer e whole there fits next))
+    (subst (λ n. Ends answer out_old out_new n notes_new status) unsaid ends)

@@ -64,6 +64,10 @@ abbrev pub OfFile : ℕ → Option (List ℕ) → (List ℕ → Answer → Type 
 OfFile most None Next a = a ≡ read_fault
 OfFile most (Some bytes) Next a = elim (nat_lt most (length bytes)) [ true ↦ a ≡ too_large | false ↦ Next bytes a ]
 
+-- The answer where the file alone decides: it cannot be read, or is too large.
+abbrev pub OfFileAlone : ℕ → Option (List ℕ) → Answer → Type 0
+OfFileAlone most file a = OfFile most file (λ bytes b. ⊥) a
+
 -- The answer over several files, which are read one after another: the first that cannot be read, or is too large,
 -- decides.
 abbrev pub OfSources : List Source → (List (List ℕ) → Answer → Type 0) → Files → Answer → Type 0

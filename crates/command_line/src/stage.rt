@@ -2,10 +2,10 @@
 ghost use Rattle.std.specs.Prelude.{IfOk, IfErr, OnOk, IsErrOf, vec_len, ◌≡◌, ◌≢◌, ◌≤◌, ◌⊎◌, List, ℕ, Option, Result, Ok, Err, [], length};
 ghost use Rattle.desk_io.specs.Bytes.{Puts, Writes};
 ghost use Rattle.desk_io.specs.Causes.{HasCause, Rose};
-ghost use Rattle.desk_io.specs.Files.{Files, Holds, Lacks, file_of};
+ghost use Rattle.desk_io.specs.Files.{Holds, Lacks, file_of};
 ghost use Rattle.gcl_reader.specs.Grammar.{Gives};
 ghost use Rattle.gcl_reader.specs.declared.refusal.Refusal.{Refusal};
-ghost use Rattle.command_line.specs.Answer.{Answer, only_notes, OfFile, answer_from};
+ghost use Rattle.command_line.specs.Answer.{only_notes, OfFileAlone, answer_from};
 ghost use Rattle.command_line.specs.Command.{Command};
 ghost use Rattle.command_line.specs.Run.{Ends, Answers};
 ghost use Rattle.command_line.specs.Contract.{IsQuiet};
@@ -83,9 +83,9 @@ pub fn fetch<K: Desk, N: Sink>(
     ensures fits { IfOk result (λ bytes. vec_len bytes ≤ most) }
     ensures absent { Lacks (K.held desk.old) name.now → OnOk result ⊥ }
     ensures untouched { OnOk result (notes.new ≡ notes.old) }
-    ensures over { IfErr result (λ status. (Next : Files → List ℕ → Answer → Type 0) (out : Option (List ℕ))
+    ensures over { IfErr result (λ status. (out : Option (List ℕ))
         → Answers (K.held desk.old) (Rose (K.faults desk.old) (K.faults desk.new))
-        (λ files a. OfFile most (file_of files name.now) (Next files) a)
+        (λ files a. OfFileAlone most (file_of files name.now) a)
         out out (N.written notes.old) (N.written notes.new) status) }
     ensures fault { IfErr result IsReadingFault }
     ensures unsaid { IsErrOf result Status.OutOfMemory → notes.new ≡ notes.old }

@@ -1,6 +1,6 @@
-use Rattle.std.proofs.Common.{Option, None, Some, inl, inr, refl, subst, arith}
+use Rattle.std.proofs.Common.{None, inl, inr, refl, subst, arith}
 use Rattle.desk_io.specs.Causes.{Rose}
-use Rattle.command_line.specs.Answer.{Form, IsAnswer, usage}
+use Rattle.command_line.specs.Answer.{IsAnswer, usage}
 use Rattle.command_line.specs.Contract.{IsRun, lent, views}
 use Rattle.command_line.specs.Run.{Answers}
 use Rattle.command_line.proofs.Causes.{complete, cut_off}
@@ -14,9 +14,9 @@ returns-in-Wrong-clause-run g c =
     let faults = g.K.Desk.faults c.args.desk.now in
     let out = g.S.Sink.written c.args.out.now in
     let answered : Answers held (Rose faults faults) (IsAnswer None) out out (g.N.Sink.written c.args.notes.now) (g.N.Sink.written c.say.new.notes) c.say.result =
-        given held (Rose faults faults) (IsAnswer None) usage out out _ _ c.say.result
-        (due_over held (Rose faults faults) (IsAnswer None) usage (λ done unproved. refl) (λ e. cc) (λ files e. refl))
-        (c.say.ensures.ends out) in
+    given held (Rose faults faults) (IsAnswer None) usage out out _ _ c.say.result
+    (due_over held (Rose faults faults) (IsAnswer None) usage (λ done unproved. refl) (λ e. cc) (λ files e. refl))
+    (c.say.ensures.ends out) in
     subst (λ form. IsRun (views g.K.Desk.held g.K.Desk.faults g.S.Sink.written g.S.Sink.faults g.N.Sink.written g.N.Sink.faults)
     (lent c.args.desk.now c.args.out.now c.args.notes.now) (lent c.args.desk.now c.args.out.now c.say.new.notes) form c.say.result)
     c.in-Wrong.ensures
