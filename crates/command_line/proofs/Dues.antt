@@ -2,7 +2,8 @@
 use Rattle.std.proofs.Common.{◌≡◌, ◌<◌, ◌⊎◌, List, ℕ, length, Option, None, Some, Bool, true, false, nat_lt, inl, inr, sym, ◌∙◌, ap, refl, subst, arith}
 use Rattle.std.proofs.lemmas.Option.{same_Some}
 use Rattle.desk_io.specs.Files.{Files, Holds, Lacks, file_of, known_at}
-use Rattle.command_line.specs.Answer.{Answer, OfFile, OfFileAlone, read_fault, too_large}
+use Rattle.command_line.specs.Answer.{Answer, read_fault, too_large}
+use Rattle.command_line.specs.Table.{OfFile, OfFileAlone}
 use Rattle.command_line.specs.Run.{Due, IsSilent, Ends, Answers}
 use Rattle.command_line.specs.declared.status.Status.{Status}
 use Rattle.command_line.specs.declared.status.Status.TheVariants.{WriteFault}

@@ -1,6 +1,6 @@
 -- What a call promises that was asked for a form, from what it answers.
 use Rattle.std.proofs.Common.{◌≡◌, ◌≤◌, ◌⊎◌, Some, inl, inr}
-use Rattle.command_line.specs.Answer.{Form, IsAnswer, names_of}
+use Rattle.command_line.specs.Table.{Form, IsAnswer, names_of}
 use Rattle.command_line.specs.Contract.{Lent, Views, DeskRose, OutRose, NotesRose, IsQuiet, LacksOne, IsRun}
 use Rattle.command_line.specs.Run.{Answers}
 use Rattle.command_line.specs.declared.status.Status.{Status}

@@ -1,7 +1,8 @@
 -- No form has two answers over the same files.
 use Rattle.std.proofs.Common.{◌≡◌, ℕ, List, [], ◌∷◌, length, Option, None, Some, Bool, true, false, nat_lt, sym, ◌∙◌}
 use Rattle.desk_io.specs.Files.{Files, file_of}
-use Rattle.command_line.specs.Answer.{Answer, Form, TextOf, Source, OfFile, OfSources, IsAnswerOver, IsAnswer, too_large, sources_of}
+use Rattle.command_line.specs.Answer.{Answer, too_large}
+use Rattle.command_line.specs.Table.{Form, TextOf, Source, OfFile, OfSources, IsAnswerOver, IsAnswer, sources_of}
 
 -- There is at most one answer.
 abbrev AtMostOne : (Answer → Type 0) → Type 0

@@ -3,7 +3,8 @@
 use Rattle.std.specs.Prelude.{◌≡◌, ℕ, ◌≤◌, ◌⊎◌, List, [], ◌∷◌, Option, Some, None}
 use Rattle.desk_io.specs.Causes.{Rose}
 use Rattle.desk_io.specs.Files.{Files, Lacks}
-use Rattle.command_line.specs.Answer.{Answer, Form, read_fault, IsAnswer, names_of}
+use Rattle.command_line.specs.Answer.{Answer, read_fault}
+use Rattle.command_line.specs.Table.{Form, IsAnswer, names_of}
 use Rattle.command_line.specs.Run.{Answers, Whole, CutOff, Nothing}
 use Rattle.command_line.specs.declared.status.Status.{Status}
 use Rattle.command_line.specs.declared.status.Status.TheVariants.{Done, Unproved, Rejected, Usage, ReadFault, WriteFault, OutOfMemory}

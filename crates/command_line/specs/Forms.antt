@@ -1,6 +1,6 @@
 -- The form that the program takes the words for.
 use Rattle.std.specs.Prelude.{Option, Some, None}
-use Rattle.command_line.specs.Answer.{Form, TextOf}
+use Rattle.command_line.specs.Table.{Form, TextOf}
 use Rattle.command_line.specs.Command.{Command}
 use Rattle.command_line.specs.Pipeline.{svg_of, latex_of, system_of, show_of}
 use Rattle.command_line.specs.declared.invocation.TextForm.{TextForm}

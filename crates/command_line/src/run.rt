@@ -3,7 +3,7 @@ ghost use Rattle.std.specs.Prelude.{◌≡◌, ◌≤◌, ◌⊎◌, List, ℕ, 
 ghost use Rattle.std.specs.String.{string_bytes};
 ghost use Rattle.desk_io.specs.Causes.{Rose};
 ghost use Rattle.desk_io.specs.Files.{Lacks};
-ghost use Rattle.command_line.specs.Answer.{IsAnswer, TextOf, form_of};
+ghost use Rattle.command_line.specs.Table.{IsAnswer, TextOf, form_of};
 ghost use Rattle.command_line.specs.Command.{Command};
 ghost use Rattle.command_line.specs.Contract.{IsRun, IsTextRun, IsQuiet, lent, views};
 ghost use Rattle.command_line.specs.Pipeline.{svg_of, latex_of, system_of, show_of};

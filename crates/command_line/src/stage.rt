@@ -5,7 +5,8 @@ ghost use Rattle.desk_io.specs.Causes.{HasCause, Rose};
 ghost use Rattle.desk_io.specs.Files.{Holds, Lacks, file_of};
 ghost use Rattle.gcl_reader.specs.Grammar.{Gives};
 ghost use Rattle.gcl_reader.specs.declared.refusal.Refusal.{Refusal};
-ghost use Rattle.command_line.specs.Answer.{only_notes, OfFileAlone, answer_from};
+ghost use Rattle.command_line.specs.Answer.{only_notes, refused, text_answer, answer_from};
+ghost use Rattle.command_line.specs.Table.{OfFileAlone};
 ghost use Rattle.command_line.specs.Command.{Command};
 ghost use Rattle.command_line.specs.Run.{Ends, Answers};
 ghost use Rattle.command_line.specs.Contract.{IsQuiet};
@@ -57,7 +58,7 @@ pub fn say<N: Sink>(line: &[u8], status: Status, notes: &mut N) -> Status
 
 /// Says why a file is refused.
 pub fn refuse<N: Sink>(alloc: Global, bytes: &[u8], refusal: Refusal, notes: &mut N) -> Status
-    ensures ends { (out : Option (List ℕ)) → Ends (answer_from bytes.now (Err refusal)) out out
+    ensures ends { (out : Option (List ℕ)) → Ends (refused bytes.now refusal) out out
         (N.written notes.old) (N.written notes.new) result }
     ensures status { (result ≡ Status.Refused) ⊎ (result ≡ Status.WriteFault) ⊎ (result ≡ Status.OutOfMemory) }
     ensures write_fault { result ≡ Status.WriteFault → Rose (N.faults notes.old) (N.faults notes.new) }
@@ -128,7 +129,7 @@ pub fn put_text<C: TextCommand, S: Sink>(
     prepared: &C::Prepared,
     out: &mut S,
 ) -> Status
-    ensures ends { (bytes : List ℕ) (notes : Option (List ℕ)) → Ends (answer_from bytes (Ok (C.text prepared.now)))
+    ensures ends { (notes : Option (List ℕ)) → Ends (text_answer (C.text prepared.now))
         (S.written out.old) (S.written out.new) notes notes result }
     ensures status { (result ≡ Status.Done) ⊎ (result ≡ Status.WriteFault) ⊎ (result ≡ Status.OutOfMemory) }
     ensures write_fault { result ≡ Status.WriteFault → Rose (S.faults out.old) (S.faults out.new) }
@@ -152,7 +153,7 @@ pub fn put_file<C: TextCommand, S: Sink, N: Sink>(
     notes: &mut N,
 ) -> Status
     requires { length bytes.now ≤ MOST_BYTES }
-    ensures ends { Ends (answer_from bytes.now (C.made bytes.now))
+    ensures ends { Ends (answer_from text_answer bytes.now (C.made bytes.now))
         (S.written out.old) (S.written out.new) (N.written notes.old) (N.written notes.new) result }
     ensures write_fault { result ≡ Status.WriteFault
         → Rose (S.faults out.old) (S.faults out.new) ⊎ Rose (N.faults notes.old) (N.faults notes.new) }

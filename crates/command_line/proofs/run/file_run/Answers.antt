@@ -1,5 +1,5 @@
 use Rattle.std.proofs.Common.{inl, inr}
-use Rattle.command_line.specs.Answer.{TextOf}
+use Rattle.command_line.specs.Table.{TextOf}
 use Rattle.command_line.specs.Contract.{lent, views}
 use Rattle.command_line.proofs.Runs.{run_of}
 use Rattle.command_line.proofs.run.file_run.Goals as goal

@@ -1,6 +1,7 @@
 use Rattle.std.proofs.Common.{None, inl, inr, refl, subst, arith}
 use Rattle.desk_io.specs.Causes.{Rose}
-use Rattle.command_line.specs.Answer.{IsAnswer, usage}
+use Rattle.command_line.specs.Answer.{usage}
+use Rattle.command_line.specs.Table.{IsAnswer}
 use Rattle.command_line.specs.Contract.{IsRun, lent, views}
 use Rattle.command_line.specs.Run.{Answers}
 use Rattle.command_line.proofs.Causes.{complete, cut_off}
