@@ -1,11 +1,13 @@
 // The stages that the commands share: what is said on notes, reading a file, and putting a text.
 ghost use Rattle.std.specs.Prelude.{IfOk, IfErr, OnOk, IsErrOf, vec_len, ◌≡◌, ◌≢◌, ◌≤◌, ◌⊎◌, List, ℕ, Option, Result, Ok, Err, [], length};
+ghost use Rattle.std.specs.List.{flat_map};
+ghost use Rattle.std.specs.Io.KnownBytes.{append_known};
 ghost use Rattle.desk_io.specs.Bytes.{Puts, Writes};
 ghost use Rattle.desk_io.specs.Causes.{HasCause, Rose};
 ghost use Rattle.desk_io.specs.Files.{Holds, Lacks, file_of};
 ghost use Rattle.gcl_reader.specs.Grammar.{Gives};
 ghost use Rattle.gcl_reader.specs.declared.refusal.Refusal.{Refusal};
-ghost use Rattle.command_line.specs.Answer.{only_notes, refused, text_answer, answer_from};
+ghost use Rattle.command_line.specs.Answer.{Answer, only_notes, refused, text_answer, answer_from};
 ghost use Rattle.command_line.specs.Table.{OfFileAlone};
 ghost use Rattle.command_line.specs.Command.{Command};
 ghost use Rattle.command_line.specs.Run.{Ends, Answers};
@@ -51,6 +53,34 @@ pub fn say<N: Sink>(line: &[u8], status: Status, notes: &mut N) -> Status
     ensures later { N.faults notes.old ≤ N.faults notes.new }
 {
     match notes.put(line) {
+        Ok(()) => status,
+        Err(_) => Status::WriteFault,
+    }
+}
+
+// Puts each line to notes.
+fn put_each<N: Sink>(lines: &[Vec<u8>], notes: &mut N) -> Result<(), Failed>
+    ensures bytes { Puts (N.written notes.old) (N.written notes.new) result
+        (flat_map (λ line. line.items) lines.now) }
+    ensures cause { HasCause (N.faults notes.old) (N.faults notes.new) result }
+{
+    for line in lines {
+        notes.put(line)?;
+    }
+    Ok(())
+}
+
+/// Says a line for each result, behind a text that was put.
+pub fn say_each<N: Sink>(lines: &[Vec<u8>], status: Status, notes: &mut N) -> Status
+    ensures status { (result ≡ status) ⊎ (result ≡ Status.WriteFault) }
+    ensures ends { (answer : Answer) (old new : Option (List ℕ)) → answer.status ≡ status
+        → answer.notes ≡ flat_map (λ line. line.items) lines.now → new ≡ append_known old answer.out
+        → Ends answer old new (N.written notes.old) (N.written notes.new) result }
+    ensures write_fault { result ≡ Status.WriteFault → status ≢ Status.WriteFault
+        → Rose (N.faults notes.old) (N.faults notes.new) }
+    ensures later { N.faults notes.old ≤ N.faults notes.new }
+{
+    match put_each(lines, notes) {
         Ok(()) => status,
         Err(_) => Status::WriteFault,
     }
