@@ -12,21 +12,13 @@ use Rattle.poly_text.specs.Bytes.{is_digit, is_poly_byte}
 use Rattle.poly_text.specs.Text.{poly_text}
 use Rattle.poly_text.proofs.Numbers.{and_parts}
 use Rattle.poly_text.proofs.Plain.{decimal-digits, poly-plain}
-
-abbrev pub Avoids : ℕ → List ℕ → Type 0
-Avoids c [] = Unit {0}
-Avoids c (b ∷ bs) = (b ≡ c → ⊥) × Avoids c bs
-
--- The text ends, or the byte stands first.
-abbrev pub EndsAt : ℕ → List ℕ → Type 0
-EndsAt c [] = Unit {0}
-EndsAt c (b ∷ bs) = b ≡ c
+pub use Rattle.proof_log.specs.Cuts.{Avoids, EndsAt}
 
 pub avoids-append : (c : ℕ) (a b : List ℕ) → Avoids c a → Avoids c b → Avoids c (a ++ b)
 avoids-append c [] b x y = y
 avoids-append c (d ∷ a) b x y = (x.0, avoids-append c a b x.1 y)
 
-heads : (a b : ℕ) (x y : List ℕ) → a ∷ x ≡ b ∷ y → (a ≡ b) × (x ≡ y)
+pub heads : (a b : ℕ) (x y : List ℕ) → a ∷ x ≡ b ∷ y → (a ≡ b) × (x ≡ y)
 heads a b x y e = (cc, cc)
 
 -- two texts up to where the byte stands

@@ -19,6 +19,9 @@ use Rattle.proof_log.specs.declared.line.LogLine.TheVariants as line
 use Rattle.proof_log.specs.declared.line.LineWord.{LineWord}
 use Rattle.proof_log.specs.declared.line.LineWord.TheVariants as word
 use Rattle.proof_log.specs.Text.{Field, Version, Proofs, Conclusion, Index, Multiplier, Letters, Why, letter_text, reason_text, minus_where, field_text, FitsField, fields_text, FitFields, row_of, word_text}
+use Rattle.proof_log.specs.declared.field.FieldKind.{FieldKind}
+use Rattle.proof_log.specs.declared.field.FieldKind.TheVariants as kind
+use Rattle.proof_log.specs.Kinds.{kind_of, field_kinds}
 use Rattle.proof_log.proofs.Bytes.{EndsAt, cut, high, high-blank, decimal-high}
 
 -- ---- words
@@ -83,24 +86,6 @@ word-high word.Verdict = refl
 word-high word.End = refl
 
 -- ---- fields: each is read from its text by its kind
-pub data Kind : Type 0 where
-  KVersion : Kind
-  KProofs : Kind
-  KConclusion : Kind
-  KIndex : Kind
-  KMultiplier : Kind
-  KLetters : Kind
-  KWhy : Kind
-
-abbrev pub kind_of : Field → Kind
-kind_of (Version v) = KVersion
-kind_of (Proofs n) = KProofs
-kind_of (Conclusion k) = KConclusion
-kind_of (Index i) = KIndex
-kind_of (Multiplier m) = KMultiplier
-kind_of (Letters path) = KLetters
-kind_of (Why r) = KWhy
-
 abbrev pub value : List ℕ → ℕ
 value text = digits_value 10 text
 
@@ -113,14 +98,14 @@ reason_of text =
     cond (bytes_eq (codes "degree") text) reason.Degree
     (cond (bytes_eq (codes "bound") text) reason.Bound (cond (bytes_eq (codes "terms") text) reason.Terms (cond (bytes_eq (codes "depth") text) reason.Depth reason.Fuel)))
 
-abbrev field_by : Kind → List ℕ → Field
-field_by KVersion text = Version (value text)
-field_by KProofs text = Proofs (value text)
-field_by KConclusion text = Conclusion (value text)
-field_by KIndex text = Index (value text)
-field_by KMultiplier text = Multiplier (signed_value text)
-field_by KLetters text = Letters (map (λ b. b == 43) (drop 1 text))
-field_by KWhy text = Why (reason_of text)
+abbrev field_by : FieldKind → List ℕ → Field
+field_by kind.Version text = Version (value text)
+field_by kind.Proofs text = Proofs (value text)
+field_by kind.Conclusion text = Conclusion (value text)
+field_by kind.Index text = Index (value text)
+field_by kind.Multiplier text = Multiplier (signed_value text)
+field_by kind.Letters text = Letters (map (λ b. b == 43) (drop 1 text))
+field_by kind.Why text = Why (reason_of text)
 
 pub value-again : (n : ℕ) → n < 10 ^ 64 → value (decimal n) ≡ n
 value-again n small = (decimal_is_IsNumeral_wide n small).1
@@ -201,32 +186,7 @@ same-fields (f ∷ fs) (g ∷ gs) x y k p q u v e =
     let r = same-fields fs gs x y kinds.1 p.1 q.1 u v c.1 in
     ((λ i. same i ∷ r.0 i), r.1)
 
-abbrev pub kinds_of : LineWord → List Kind
-kinds_of word.Head = KVersion ∷ []
-kinds_of word.Proves = KProofs ∷ []
-kinds_of word.Prove = KProofs ∷ []
-kinds_of word.Vars = []
-kinds_of word.Hyp = []
-kinds_of word.Con = []
-kinds_of word.Node = KLetters ∷ []
-kinds_of word.Drop = KIndex ∷ []
-kinds_of word.Red = KIndex ∷ KIndex ∷ KMultiplier ∷ []
-kinds_of word.Tail = KIndex ∷ []
-kinds_of word.Split = KIndex ∷ []
-kinds_of word.Close = KIndex ∷ []
-kinds_of word.Clash = KIndex ∷ KIndex ∷ []
-kinds_of word.System = []
-kinds_of word.Step = KConclusion ∷ KIndex ∷ KMultiplier ∷ []
-kinds_of word.Proved = []
-kinds_of word.Remainder = KConclusion ∷ []
-kinds_of word.Unreduced = KConclusion ∷ KWhy ∷ KIndex ∷ []
-kinds_of word.Open = KWhy ∷ []
-kinds_of word.Eq = []
-kinds_of word.Ne = []
-kinds_of word.Verdict = []
-kinds_of word.End = []
-
-pub placed : (l : LogLine) → map kind_of (row_of l).fields ≡ kinds_of (row_of l).word
+pub placed : (l : LogLine) → map kind_of (row_of l).fields ≡ field_kinds (row_of l).word
 placed (line.Head v) = refl
 placed (line.Proves n) = refl
 placed (line.Prove k) = refl

@@ -5,3 +5,10 @@ pub mod OneLine
 pub mod OneText
 pub mod ShortTerms
 pub mod Short
+pub mod Written
+pub mod Whole
+mod Items
+mod Cutting
+mod Spelled
+mod Plain
+mod Rows

@@ -22,53 +22,15 @@ use Rattle.proof_log.specs.declared.line.LineWord.{LineWord}
 use Rattle.proof_log.specs.declared.line.LineWord.TheVariants as word
 use Rattle.proof_log.specs.Text.{Field, Version, Proofs, Conclusion, Index, Multiplier, Letters, Why, fields_text, FitFields, Tail, Nothing, Poly, Names, Tried, Told, FitsPoly, FitPolys, attempt_word, attempt_fields, more_text, polys_text, verdict_text, tail_text, FitsVerdict, FitsTail, Row, row_of, word_text, line_text, IsLine}
 use Rattle.proof_log.proofs.Bytes.{EndsAt, cut, high, high-blank, decimal-high, poly-semicolon}
-use Rattle.proof_log.proofs.Fields.{fields-end, kind_of, kinds_of, placed, same-fields, same-word, value, value-again, word-high}
+use Rattle.proof_log.specs.Kinds.{kind_of, field_kinds, tail_kind_of, tail_kind}
+use Rattle.proof_log.proofs.Fields.{fields-end, placed, same-fields, same-word, value, value-again, word-high}
 
 -- texts whose first bytes differ
 apart : (a b : List ℕ) → a ≡ b → (get_or a 0 0 == get_or b 0 0) ≡ false → ⊥
 apart a b e differ = let h : get_or a 0 0 ≡ get_or b 0 0 = ap (λ l. get_or l 0 0) e in grind (arith, nat_tests)
 
 -- ---- the rest of a line
-data TailKind : Type 0 where
-  TNothing : TailKind
-  TPoly : TailKind
-  TNames : TailKind
-  TTried : TailKind
-  TTold : TailKind
-
-abbrev tail_kind_of : Tail → TailKind
-tail_kind_of Nothing = TNothing
-tail_kind_of (Poly p) = TPoly
-tail_kind_of (Names ns) = TNames
-tail_kind_of (Tried what) = TTried
-tail_kind_of (Told v) = TTold
-
-abbrev tail_kind : LineWord → TailKind
-tail_kind word.Head = TNothing
-tail_kind word.Proves = TNothing
-tail_kind word.Prove = TNothing
-tail_kind word.Vars = TNames
-tail_kind word.Hyp = TPoly
-tail_kind word.Con = TPoly
-tail_kind word.Node = TNothing
-tail_kind word.Drop = TNothing
-tail_kind word.Red = TPoly
-tail_kind word.Tail = TPoly
-tail_kind word.Split = TPoly
-tail_kind word.Close = TNothing
-tail_kind word.Clash = TNothing
-tail_kind word.System = TNothing
-tail_kind word.Step = TPoly
-tail_kind word.Proved = TNothing
-tail_kind word.Remainder = TNothing
-tail_kind word.Unreduced = TNothing
-tail_kind word.Open = TTried
-tail_kind word.Eq = TPoly
-tail_kind word.Ne = TPoly
-tail_kind word.Verdict = TTold
-tail_kind word.End = TNothing
-
-tailed : (l : LogLine) → tail_kind_of (row_of l).tail ≡ tail_kind (row_of l).word
+pub tailed : (l : LogLine) → tail_kind_of (row_of l).tail ≡ tail_kind (row_of l).word
 tailed (line.Head v) = refl
 tailed (line.Proves n) = refl
 tailed (line.Prove k) = refl
@@ -93,7 +55,7 @@ tailed (line.Ne p) = refl
 tailed (line.Verdict v) = refl
 tailed line.End = refl
 
-same-poly : (names : List VarName) (p q : Polynomial) → are_variables names ≡ true → FitsPoly names p → FitsPoly names q → poly_text names p ≡ poly_text names q → p ≡ q
+pub same-poly : (names : List VarName) (p q : Polynomial) → are_variables names ≡ true → FitsPoly names p → FitsPoly names q → poly_text names p ≡ poly_text names q → p ≡ q
 same-poly names p q v f g e = same_text names p q (named names v) (all_fit names p (few names v) f.0 f.1) (all_fit names q (few names v) g.0 g.1) e
 
 more-end : (names : List VarName) (ps : List Polynomial) → EndsAt 59 (more_text names ps)
@@ -124,7 +86,7 @@ same-polys names (p ∷ ps) (q ∷ qs) v f g e =
     let c = same-first names p q ps qs v f.0 g.0 (ap (drop 1) e) in
     λ i. c.0 i ∷ same-more names ps qs v f.1 g.1 c.1 i
 
-same-name : (m n : VarName) → number m ≤ 255 → number n ≤ 255 → variable_text m ≡ variable_text n → m ≡ n
+pub same-name : (m n : VarName) → number m ≤ 255 → number n ≤ 255 → variable_text m ≡ variable_text n → m ≡ n
 same-name (U i) (U j) p q e = ap U (sym (value-again i (omega (arith, p))) ∙ ap (λ l. value (drop 1 l)) e ∙ value-again j (omega (arith, q)))
 same-name (X i) (X j) p q e = ap X (sym (value-again i (omega (arith, p))) ∙ ap (λ l. value (drop 1 l)) e ∙ value-again j (omega (arith, q)))
 same-name (U i) (X j) p q e = absurd (apart _ _ e refl)
@@ -358,6 +320,6 @@ one_line names l m n f g e =
     let c = cut 32 (word_text a.word) (word_text b.word) (rest a) (rest b) (high-blank (word_text a.word) (word-high a.word)) (high-blank (word_text b.word) (word-high b.word))
     (fields-end a.fields (tail_text names a.tail) (tail-end names a.tail)) (fields-end b.fields (tail_text names b.tail) (tail-end names b.tail)) e in
     let w = same-word a.word b.word c.0 in
-    let d = same-fields a.fields b.fields (tail_text names a.tail) (tail_text names b.tail) (placed l ∙ ap kinds_of w ∙ sym (placed m)) f.0 g.0 (tail-end names a.tail) (tail-end names b.tail) c.1 in
+    let d = same-fields a.fields b.fields (tail_text names a.tail) (tail_text names b.tail) (placed l ∙ ap field_kinds w ∙ sym (placed m)) f.0 g.0 (tail-end names a.tail) (tail-end names b.tail) c.1 in
     let t = same-tail names a.tail b.tail n (tailed l ∙ ap tail_kind w ∙ sym (tailed m)) f.1 g.1 d.1 in
     sym (again l) ∙ (λ i. line_by (w i) (d.0 i) (t i)) ∙ again m

@@ -1,3 +1,7 @@
 pub mod Lines
 pub mod Text
 pub mod Lengths
+pub mod Cuts
+pub mod Kinds
+pub mod Writing
+pub mod Own
