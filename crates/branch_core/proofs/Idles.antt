@@ -1,5 +1,5 @@
 -- What is left to do, by the numbers of paths that wait and are held.
-use Rattle.std.proofs.Common.{◌≡◌, ℕ, ◌<◌, List, [], ◌∷◌, Bool, true, false, length, refl, arith}
+use Rattle.std.proofs.Common.{◌≡◌, ◌<◌, List, [], ◌∷◌, Bool, true, false, length, refl, arith}
 use Rattle.branch_core.specs.declared.event.Hold.{Hold}
 use Rattle.branch_core.specs.declared.answers.Idle.TheVariants.{Stopped, Done, Work, Wait}
 use Rattle.branch_core.specs.Told.{idle_of}

@@ -4,3 +4,6 @@ pub mod Idles
 pub mod Always
 pub mod Moves
 pub mod Conserved
+pub mod Once
+pub mod Unique
+pub mod Completed

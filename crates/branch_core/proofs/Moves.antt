@@ -1,5 +1,5 @@
 -- Lists in three parts, of which a part moves on.
-use Rattle.std.proofs.Common.{◌≡◌, ℕ, ◌<◌, zero, suc, List, [], ◌∷◌, ◌++◌, length, get_or, refl, sym, ap, ◌∙◌, subst, append_assoc, arith}
+use Rattle.std.proofs.Common.{◌≡◌, ℕ, ◌<◌, zero, suc, List, [], ◌∷◌, ◌++◌, length, get_or, sym, ap, subst, append_assoc, arith}
 use Rattle.std.specs.List.{flat_map, remove}
 use Rattle.std.specs.List.Sorted.{IsPermutation}
 use Rattle.std.proofs.lemmas.List.{append-nil}
@@ -39,12 +39,12 @@ module _ {X : Type 0} where
   pub parted : (d w h h' x c : List X) → IsPermutation h ((x ++ c) ++ h') → IsPermutation (d ++ (w ++ h)) ((d ++ x) ++ ((w ++ c) ++ h'))
   parted d w h h' x c p =
       let a : IsPermutation (w ++ h) (w ++ (x ++ (c ++ h'))) =
-          IsPermutation-trans (w ++ h) (w ++ ((x ++ c) ++ h')) (w ++ (x ++ (c ++ h')))
-          (IsPermutation-append_right w h ((x ++ c) ++ h') p) (same _ _ (ap (λ l. w ++ l) (append_assoc x c h'))) in
+      IsPermutation-trans (w ++ h) (w ++ ((x ++ c) ++ h')) (w ++ (x ++ (c ++ h')))
+      (IsPermutation-append_right w h ((x ++ c) ++ h') p) (same _ _ (ap (λ l. w ++ l) (append_assoc x c h'))) in
       let b : IsPermutation (w ++ h) (x ++ ((w ++ c) ++ h')) =
-          IsPermutation-trans (w ++ h) (w ++ (x ++ (c ++ h'))) (x ++ ((w ++ c) ++ h')) a
-          (IsPermutation-trans (w ++ (x ++ (c ++ h'))) (x ++ (w ++ (c ++ h'))) (x ++ ((w ++ c) ++ h')) (fronted w x (c ++ h'))
-            (same _ _ (ap (λ l. x ++ l) (sym (append_assoc w c h'))))) in
+      IsPermutation-trans (w ++ h) (w ++ (x ++ (c ++ h'))) (x ++ ((w ++ c) ++ h')) a
+      (IsPermutation-trans (w ++ (x ++ (c ++ h'))) (x ++ (w ++ (c ++ h'))) (x ++ ((w ++ c) ++ h')) (fronted w x (c ++ h'))
+      (same _ _ (ap (λ l. x ++ l) (sym (append_assoc w c h'))))) in
       IsPermutation-trans (d ++ (w ++ h)) (d ++ (x ++ ((w ++ c) ++ h'))) ((d ++ x) ++ ((w ++ c) ++ h'))
       (IsPermutation-append_right d (w ++ h) (x ++ ((w ++ c) ++ h')) b) (same _ _ (sym (append_assoc d x ((w ++ c) ++ h'))))
 

@@ -1,5 +1,5 @@
 -- How a history grows by an event: what it leads to, and the pieces that it brought.
-use Rattle.std.proofs.Common.{◌≡◌, ℕ, ◌<◌, List, [], ◌∷◌, ◌++◌, Bool, true, false, ◌||◌, length, refl, sym, ap, ◌∙◌, arith, append_assoc, Option, Some, None, cond}
+use Rattle.std.proofs.Common.{◌≡◌, ℕ, ◌<◌, List, [], ◌∷◌, ◌++◌, Bool, true, false, ◌||◌, length, refl, sym, ap, ◌∙◌, arith, append_assoc, Option, Some, None}
 use Rattle.std.specs.Prelude.{nat_lt}
 use Rattle.std.specs.Option.{option_and_then}
 use Rattle.std.specs.List.{list_any, remove}
@@ -7,8 +7,7 @@ use Rattle.std.proofs.lemmas.List.{append-nil}
 use Rattle.std.proofs.lemmas.List.Folds.{list_any-append}
 use Rattle.poly_model.specs.declared.limits.TheConstants.{MOST_LETTERS}
 use Rattle.branch_core.specs.declared.event.Event.{Event}
-use Rattle.branch_core.specs.declared.event.Event.TheVariants.{Take, Split, Leaf, Refuse}
-use Rattle.branch_core.specs.Machine.{State, state_is, hold, start, takes, splits, leaves, refuses, waits_at, held_at, step, replay_from, replay, done_by, done_of, IsRun}
+use Rattle.branch_core.specs.Machine.{State, state_is, hold, start, takes, splits, leaves, refuses, step, replay_from, replay, done_by, done_of, IsRun}
 use Rattle.std.proofs.lemmas.Bool.Decides.{nat_tests}
 use Rattle.proof_steps.specs.Paths.{same_path}
 use Rattle.branch_core.specs.Told.{is_done, Tells, IsGone}
@@ -96,3 +95,11 @@ two_more xs ys zs a b e f = f ∙ ap (λ l. l ++ b ∷ []) e ∙ append_assoc xs
 
 pub is_run : {P : Type 0} (es : List (Event P)) (s : State P) → replay es ≡ Some s → IsRun es
 is_run es s e = rw e refl
+
+-- the pieces so far and the event's are those of the events with it
+pub no_piece : {P : Type 0} (es : List (Event P)) (e : Event P) (done : List (List Bool × P)) → done ≡ done_of es → done_by e ≡ [] → done ≡ done_of (es ++ e ∷ [])
+no_piece es e done h none = h ∙ sym (done_of_snoc es e ∙ ap (λ l. done_of es ++ l) none ∙ append-nil (done_of es))
+
+pub one_piece : {P : Type 0} (es : List (Event P)) (e : Event P) (done more : List (List Bool × P)) (path : List Bool) (x : P)
+    → done ≡ done_of es → more ≡ done ++ (path, x) ∷ [] → done_by e ≡ (path, x) ∷ [] → more ≡ done_of (es ++ e ∷ [])
+one_piece es e done more path x h k one = k ∙ ap (λ l. l ++ (path, x) ∷ []) h ∙ sym (done_of_snoc es e ∙ ap (λ l. done_of es ++ l) one)

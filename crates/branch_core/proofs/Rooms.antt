@@ -1,5 +1,5 @@
 -- A book keeps its reserve through each event.
-use Rattle.std.proofs.Common.{◌≡◌, ℕ, ◌+◌, ◌*◌, ◌≤◌, ◌<◌, Bool, true, false, cond, arith, refl}
+use Rattle.std.proofs.Common.{◌≡◌, ℕ, ◌+◌, ◌*◌, ◌≤◌, Bool, true, false, arith}
 use Rattle.branch_core.specs.Room.{HasRoom, RoomForTwo}
 
 pub room_take : (stopped : Bool) (waiting waiting_room held held_room events events_room waiting' held' events' : ℕ) → stopped ≡ false

@@ -1,5 +1,5 @@
 -- The branch machine: its states, which event is possible where, and the state that a list of events leads to.
-use Rattle.std.specs.Prelude.{◌≡◌, ℕ, List, [], ◌∷◌, ◌++◌, Bool, true, false, ◌&&◌, ◌==◌, cond, nat_lt, length, Option, Some, None, is_some, IsSome}
+use Rattle.std.specs.Prelude.{ℕ, List, [], ◌∷◌, ◌++◌, Bool, true, false, ◌&&◌, ◌==◌, cond, nat_lt, length, Option, Some, None, IsSome}
 use Rattle.std.specs.List.{position, remove}
 use Rattle.std.specs.Option.{option_and_then}
 use Rattle.poly_model.specs.declared.limits.TheConstants.{MOST_LETTERS}

@@ -1,5 +1,5 @@
 -- The laws of the machine's runs, and of the runs of a tree.
-use Rattle.std.specs.Prelude.{◌≡◌, ℕ, ◌+◌, ◌≤◌, List, [], ◌∷◌, ◌++◌, Bool, true, false, Option, Some, None, map}
+use Rattle.std.specs.Prelude.{◌≡◌, ℕ, ◌+◌, ◌≤◌, List, [], ◌∷◌, ◌++◌, Bool, false, Option, Some, None, map}
 use Rattle.std.specs.List.{flat_map, count_by}
 use Rattle.std.specs.List.Sorted.{IsPermutation, IsSortedBy}
 use Rattle.std.specs.Ordering.{is_lt}
@@ -8,7 +8,7 @@ use Rattle.branch_core.specs.declared.event.Event.{Event}
 use Rattle.branch_core.specs.declared.event.Event.TheVariants as event
 use Rattle.branch_core.specs.declared.event.Hold.{Hold}
 use Rattle.branch_core.specs.declared.answers.Idle.TheVariants as idle
-use Rattle.branch_core.specs.Machine.{State, replay, done_of}
+use Rattle.branch_core.specs.Machine.{State, replay, IsRun, done_of}
 use Rattle.branch_core.specs.Trees.{Tree, Leaf, Fork, preorder, below, entries, entries_at}
 use Rattle.branch_core.specs.Told.{IsIdle}
 
@@ -34,6 +34,12 @@ takes_path p (event.Refuse worker q) = false
 
 abbrev pub times_taken : {P : Type 0} → List (Event P) → List Bool → ℕ
 times_taken history p = count_by (takes_path p) history
+
+abbrev pub EachInOneState : {P : Type 0} → List (Event P) → Type 0
+EachInOneState {P} history = (s : State P) → replay history ≡ Some s → InOneState s
+
+abbrev pub TakenOnce : {P : Type 0} → List (Event P) → Type 0
+TakenOnce history = IsRun history → (p : List Bool) → times_taken history p ≤ 1
 
 abbrev pub IsForkOf : {P : Type 0} → Option (Tree P) → P → Type 0
 IsForkOf None x = ⊥

@@ -4,7 +4,7 @@ use Rattle.std.specs.List.{list_any, find}
 use Rattle.std.specs.Option.{option_map}
 use Rattle.proof_steps.specs.Paths.{same_path}
 use Rattle.branch_core.specs.declared.event.Event.{Event}
-use Rattle.branch_core.specs.declared.event.Event.TheVariants.{Take, Split, Leaf, Refuse}
+use Rattle.branch_core.specs.declared.event.Event.TheVariants.{Split}
 use Rattle.branch_core.specs.declared.event.Hold.{Hold}
 use Rattle.branch_core.specs.declared.answers.Gone.{Gone}
 use Rattle.branch_core.specs.declared.answers.PathState.{PathState}

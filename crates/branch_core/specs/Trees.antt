@@ -1,5 +1,5 @@
 -- Trees whose nodes have a piece each, and two children or none; their pieces in preorder, and what stands at a path.
-use Rattle.std.specs.Prelude.{◌≡◌, List, [], ◌∷◌, ◌++◌, Bool, true, false, Option, Some, None}
+use Rattle.std.specs.Prelude.{List, [], ◌∷◌, ◌++◌, Bool, true, false, Option, Some, None}
 use Rattle.std.specs.Option.{option_map}
 
 pub data Tree (P : Type 0) : Type 0 where

@@ -53,12 +53,7 @@ pub fn is_done<P>(history: &[Event<P>], path: Path) -> bool
     some_ends(history, path)
 }
 
-pub fn path_state<P>(
-    waiting: &[Path],
-    held: &[Hold],
-    history: &[Event<P>],
-    path: Path,
-) -> PathState
+pub fn path_state<P>(waiting: &[Path], held: &[Hold], history: &[Event<P>], path: Path) -> PathState
     ensures { result ≡ state_at (state_is waiting.now held.now (done_of history.now) false) path }
 {
     if waits_at(waiting, path).is_some() {

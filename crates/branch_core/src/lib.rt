@@ -3,9 +3,13 @@
 #![tactic(auto)]
 
 mod answers;
+mod arrange;
 mod book;
 mod event;
 mod find;
+pub mod laws;
+#[cfg(test)]
+mod tests;
 
 pub use answers::{Gone, Idle, PathState, Unsplit};
 pub use book::Book;

@@ -1,2 +1,6 @@
 //! Which logs are accepted, line by line and as a whole.
 #![tactic(auto)]
+
+mod laws;
+
+pub use laws::{fitting_is_accepted, pieces_end_in_what_follows, tallies_tell_verdicts};

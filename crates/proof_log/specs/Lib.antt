@@ -5,3 +5,4 @@ pub mod Cuts
 pub mod Kinds
 pub mod Writing
 pub mod Own
+pub mod Accepted

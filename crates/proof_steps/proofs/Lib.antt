@@ -1,3 +1,4 @@
+pub mod Stated
 pub mod Word
 pub mod Paths
 pub mod Search

@@ -1,4 +1,4 @@
-use Rattle.std.proofs.Common.{◌≡◌, Some, ap, false}
+use Rattle.std.proofs.Common.{◌≡◌, Some, ap}
 use Rattle.branch_core.specs.Machine.{State, state_is, replay, done_of}
 use Rattle.branch_core.specs.Told.{state_at}
 use Rattle.branch_core.specs.declared.answers.PathState.{PathState}

@@ -1,9 +1,9 @@
-use Rattle.std.proofs.Common.{◌≡◌, ◌++◌, ◌∷◌, [], List, Bool, ℕ, Some, None, ◌∙◌, subst}
+use Rattle.std.proofs.Common.{◌≡◌, List, Bool, ℕ, Some, None, ◌∙◌, subst}
 use Rattle.std.specs.List.{position}
 use Rattle.branch_core.specs.declared.event.Event.{Event}
 use Rattle.branch_core.specs.declared.event.Event.TheVariants.{Leaf}
 use Rattle.branch_core.specs.Machine.{State, state_is, replay, done_of, is_hold}
-use Rattle.branch_core.specs.Told.{IsGone, Tells}
+use Rattle.branch_core.specs.Told.{IsGone}
 use Rattle.branch_core.proofs.Replays.{next, leaves_at, leaves_none, refused, done_of_snoc}
 use Rattle.branch_core.proofs.Rooms.{room_leaf}
 use Rattle.branch_core.proofs.book.Book.leaf.Goals as goal

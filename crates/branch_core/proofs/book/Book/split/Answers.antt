@@ -1,4 +1,4 @@
-use Rattle.std.proofs.Common.{◌≡◌, ◌<◌, ◌+◌, ◌++◌, ◌∷◌, [], List, Bool, true, false, ℕ, length, Some, None, ◌∙◌, subst, sym, ap, refl, arith}
+use Rattle.std.proofs.Common.{◌≡◌, ◌<◌, ◌+◌, ◌++◌, ◌∷◌, [], List, Bool, ℕ, length, Some, None, ◌∙◌, subst, sym, refl, arith}
 use Rattle.std.specs.Vec.{vec_len}
 use Rattle.std.specs.List.{position}
 use Rattle.poly_model.specs.declared.limits.TheConstants.{MOST_LETTERS}

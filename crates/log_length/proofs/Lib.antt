@@ -1,0 +1,3 @@
+mod Pieces
+mod Under
+pub mod Whole
