@@ -1,6 +1,7 @@
 -- How the lists of lanes and their ends grow and change.
-use Rattle.std.proofs.Common.{◌≡◌, ℕ, ◌+◌, ◌-◌, ◌<◌, zero, suc, List, [], ◌∷◌, ◌++◌, length, get_or, take, drop, map, set, refl, sym, ap, ◌∙◌, arith, length-drop, add-one, Option, Some, None, MatchOption, append_assoc}
+use Rattle.std.proofs.Common.{◌≡◌, ℕ, ◌+◌, ◌-◌, ◌<◌, zero, suc, List, [], ◌∷◌, ◌++◌, length, get_or, take, drop, map, set, refl, sym, ap, ◌∙◌, arith, length-drop, ◌≤◌, ◌≢◌, add-one, Option, Some, None, MatchOption, append_assoc}
 use Rattle.std.specs.List.{remove, take-map, drop-map}
+use Rattle.std.proofs.lemmas.Bool.Decides.{nat_tests}
 use Rattle.std.proofs.Math.Seq.{take-length}
 use Rattle.std.proofs.lemmas.List.{map-append, length-map}
 use Rattle.std.proofs.lemmas.Option.{slice_get-get_or}
@@ -74,3 +75,7 @@ module _ {I : Type 0} where
   pub empty : (xs : List (End I)) → length xs ≡ 0 → xs ≡ []
   empty [] e = refl
   empty (x ∷ xs) e = absurd (omega arith)
+
+-- the door to another lane is there
+pub through : (place from doors : ℕ) → from ≢ place → from ≤ doors → place ≤ doors → door_to place from < doors
+through place from doors apart there within = grind (arith, nat_tests)

@@ -1,5 +1,5 @@
 -- What a stack stands for, before and after its last entry is done.
-use Rattle.std.proofs.Common.{◌≡◌, ℕ, ◌+◌, ◌<◌, List, [], ◌∷◌, ◌++◌, Bool, true, false, length, get_or, take, map, refl, sym, ap, ◌∙◌, arith, append_assoc, Option, Some, None, add-one}
+use Rattle.std.proofs.Common.{◌≡◌, ℕ, ◌+◌, ◌<◌, List, [], ◌∷◌, ◌++◌, Bool, true, false, length, get_or, take, map, refl, sym, ap, ◌∙◌, arith, append_assoc, Option, Some, None}
 use Rattle.std.specs.List.{sum_by}
 use Rattle.std.specs.Option.{option_map}
 use Rattle.std.proofs.lemmas.List.{append-nil, map-append, take_more}
@@ -34,7 +34,7 @@ module _ {P : Type 0} (t : Tree P) where
       let plus : pieces_at t (p ++ true ∷ []) ≡ preorder l = ap pieces_of (below_child t p y l r true e) in
       let minus : pieces_at t (p ++ false ∷ []) ≡ preorder r = ap pieces_of (below_child t p y l r false e) in
       let rest : stacked (pieces_at t) (s ++ children_of p true) ≡ preorder l ++ (preorder r ++ stacked (pieces_at t) s) =
-          stacked_two (pieces_at t) s (p ++ false ∷ []) (p ++ true ∷ []) ∙ (λ i. plus i ++ (minus i ++ stacked (pieces_at t) s)) in
+      stacked_two (pieces_at t) s (p ++ false ∷ []) (p ++ true ∷ []) ∙ (λ i. plus i ++ (minus i ++ stacked (pieces_at t) s)) in
       rw (same, both, rest) (ap (λ k. x ∷ k) (append_assoc (preorder l) (preorder r) (stacked (pieces_at t) s)))
 
   -- the last path's piece comes next, and its children stand in its place

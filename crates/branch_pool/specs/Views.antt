@@ -1,7 +1,7 @@
 -- A lane: the owner's end of its own deque, and an end of each other lane's deque.
-use Rattle.std.specs.Prelude.{◌≡◌, ℕ, suc, ◌-◌, List, [], ◌∷◌, Option, Some, cond, nat_lt, map, slice_get, slice_set, length}
+use Rattle.std.specs.Prelude.{◌≡◌, ℕ, suc, ◌-◌, List, [], ◌∷◌, Some, cond, nat_lt, map, slice_get, slice_set, length}
 use Rattle.std.specs.List.{remove, All}
-use Rattle.branch_pool.specs.Deques.{End, end_is, new_end, gave_at, took_at}
+use Rattle.branch_pool.specs.Deques.{End, new_end, gave_at, took_at}
 
 -- the doors stand by the places of their deques, with this lane's own place left out
 pub record View (I : Type 0) : Type 0 where
@@ -25,6 +25,9 @@ after_pop v x = view_is (took_at x v.own) v.doors v.place
 -- the end at the door to that place gains the item
 abbrev pub Steals : {I : Type 0} → View I → ℕ → I → View I → Type 0
 Steals {I} v from x w = (e : End I) × (slice_get v.doors (door_to v.place from) ≡ Some e) × (w ≡ view_is v.own (slice_set v.doors (door_to v.place from) (took_at x e)) v.place)
+
+abbrev pub StealsSome : {I : Type 0} → View I → I → View I → Type 0
+StealsSome {I} v x w = (from : ℕ) × Steals v from x w
 
 -- the new lane at a place, for these deques
 abbrev pub new_lane : {I : Type 0} → List (End I) → ℕ → End I → View I

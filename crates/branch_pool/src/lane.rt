@@ -1,7 +1,7 @@
-ghost use Rattle.std.specs.Prelude.{◌≡◌, ◌≢◌, ◌≤◌, ◌<◌, ◌++◌, length, map, IfOk, OnOk, OnErr, IfErr, MatchOption, vec_len};
+ghost use Rattle.std.specs.Prelude.{◌≡◌, ◌≢◌, ◌≤◌, ◌<◌, ◌+◌, ◌++◌, length, map, IfOk, OnOk, OnErr, IfErr, MatchOption, vec_len};
 ghost use Rattle.std.specs.List.{remove, All};
 ghost use Rattle.branch_pool.specs.Deques.{new_end};
-ghost use Rattle.branch_pool.specs.Views.{after_push, after_pop, Steals, door_to, AreLanes};
+ghost use Rattle.branch_pool.specs.Views.{after_push, after_pop, Steals, StealsSome, door_to, AreLanes};
 
 use crate::ends::{Door, Owner};
 use std::alloc::{AllocError, Global};
@@ -17,11 +17,14 @@ pub struct Lane<I> {
 }
 
 impl<I> Model for Lane<I> {
+    ghost use Rattle.std.specs.Prelude.{◌≤◌, length};
     ghost use Rattle.branch_pool.specs.Views.{View, view_is};
 
     ghost Value = { View I };
 
     ghost view = { λ l. view_is l.own l.doors.items l.place };
+
+    ghost invariant = { λ l. l.place ≤ length l.doors.items };
 }
 
 impl<I> Lane<I> {
@@ -44,7 +47,7 @@ impl<I> Lane<I> {
     /// Takes the first item of another lane. None says that there was none at one moment.
     pub fn steal<R: Wait>(&mut self, rt: &R, from: usize) -> Option<I>
         requires other { from ≢ self.old.place }
-        requires there { door_to self.old.place from < length self.old.doors }
+        requires there { from ≤ length self.old.doors }
         ensures { MatchOption result (self.new ≡ self.old) (λ x. Steals self.old from x self.new) }
     {
         let at = door_to(self.place, from);
@@ -53,10 +56,14 @@ impl<I> Lane<I> {
     }
 
     /// Takes the first item of the first other lane that has one.
-    pub fn steal_any<R: Wait>(&mut self, rt: &R) -> Option<I> {
-        for door in self.doors.iter_mut() {
-            if let Some(item) = door.steal(rt) {
-                return Some(item);
+    pub fn steal_any<R: Wait>(&mut self, rt: &R) -> Option<I>
+        ensures { MatchOption result (self.new ≡ self.old) (λ x. StealsSome self.old x self.new) }
+    {
+        for from in 0..self.lanes() {
+            if from != self.place() {
+                if let Some(item) = self.steal(rt, from) {
+                    return Some(item);
+                }
             }
         }
         None
@@ -67,6 +74,13 @@ impl<I> Lane<I> {
         ensures { result ≡ self.now.place }
     {
         self.place
+    }
+
+    /// How many lanes there are.
+    pub fn lanes(&self) -> usize
+        ensures { result ≡ length self.now.doors + 1 }
+    {
+        self.doors.len() + 1
     }
 }
 

@@ -8,6 +8,8 @@ pub mod laws;
 mod rule;
 mod run;
 mod seat;
+#[cfg(test)]
+mod tests;
 mod whole;
 mod work;
 

@@ -1,5 +1,5 @@
-use Rattle.std.proofs.Common.{◌≡◌, ◌<◌, ◌+◌, ◌++◌, ◌∷◌, [], List, length, vec_len, map, ap, sym, subst, ◌∙◌, arith, rules, length-append}
-use Rattle.std.specs.List.{remove, All}
+use Rattle.std.proofs.Common.{◌≡◌, ◌+◌, ◌++◌, ◌∷◌, [], List, length, map, ap, sym, subst, ◌∙◌, arith, length-append}
+use Rattle.std.specs.List.{All}
 use Rattle.std.proofs.lemmas.List.{length-map, append-nil}
 use Rattle.branch_pool.specs.Deques.{End, new_end}
 use Rattle.branch_pool.proofs.Rows.{more_lanes, by_owners, next_of, as_many, empty}

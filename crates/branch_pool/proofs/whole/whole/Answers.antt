@@ -1,4 +1,4 @@
-use Rattle.std.proofs.Common.{◌≡◌, ◌<◌, true, length, sym, ◌∙◌, arith}
+use Rattle.std.proofs.Common.{◌≡◌, ◌<◌, true, length}
 use Rattle.proof_steps.specs.Paths.{same_path}
 use Rattle.branch_core.specs.Trees.{preorder}
 use Rattle.branch_pool.proofs.Stacks.{one_met}
