@@ -1,5 +1,7 @@
 -- Which fields and which rest stand behind each word.
-use Rattle.std.specs.Prelude.{◌≡◌, List, [], ◌∷◌}
+use Rattle.std.specs.Prelude.{◌≡◌, ◌≤◌, ℕ, Bool, true, false, List, [], ◌∷◌, codes}
+use Rattle.poly_model.specs.Names.{number}
+use Rattle.poly_model.specs.declared.vars.VarName.{VarName}
 use Rattle.proof_log.specs.declared.field.FieldKind.{FieldKind}
 use Rattle.proof_log.specs.declared.field.FieldKind.TheVariants as kind
 use Rattle.proof_log.specs.declared.tail.TailKind.{TailKind}
@@ -84,3 +86,13 @@ tail_kind word.Eq = tail.Poly
 tail_kind word.Ne = tail.Poly
 tail_kind word.Verdict = tail.Told
 tail_kind word.End = tail.Nothing
+
+-- Variables whose numbers are bytes.
+abbrev pub AreNames : List VarName → Type 0
+AreNames [] = Unit {0}
+AreNames (n ∷ ns) = (number n ≤ 255) × AreNames ns
+
+-- What stands before a polynomial of a list: before the first, and before each later one.
+abbrev pub poly_mark : Bool → List ℕ
+poly_mark true = codes " "
+poly_mark false = codes "; "

@@ -39,7 +39,7 @@ pub enum FieldKind {
 }
 
 /// The number that a text spells, if it is one of these.
-fn number_of(least: u128, most: u128, text: &[u8]) -> Option<u128>
+pub fn number_of(least: u128, most: u128, text: &[u8]) -> Option<u128>
     requires { most < 2 ^ 127 }
     ensures reads { IfSome result (λ n. (least ≤ n) × (n ≤ most) × (text.now ≡ decimal n)) }
     ensures refuses { IfNone result ((n : ℕ) → least ≤ n → n ≤ most → text.now ≢ decimal n) }

@@ -2,6 +2,7 @@
 #![tactic(auto)]
 
 mod cut;
+mod fault;
 mod field;
 mod laws;
 mod limits;
