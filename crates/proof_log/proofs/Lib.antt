@@ -8,3 +8,4 @@ mod Cutting
 mod Spelled
 mod Plain
 mod Rows
+mod Worded

@@ -1,4 +1,5 @@
-ghost use Rattle.std.specs.Prelude.{◌≡◌, ◌≢◌, ◌<◌, ◌≤◌, ◌^◌, ◌++◌, ◌∷◌, List, ℕ, ℤ, pos, Bool, false, length, map, decimal, IfSome, IfNone, IfOk, MatchOption};
+ghost use Rattle.std.specs.Prelude.{◌≡◌, ◌≢◌, ◌<◌, ◌≤◌, ◌^◌, ◌++◌, ◌∷◌, List, ℕ, ℤ, pos, Bool, false, length, map, decimal, IfSome, IfNone, IfOk, IsErrOf, MatchOption};
+ghost use Rattle.proof_log.specs.declared.fault.LineFault.{LineFault};
 ghost use Rattle.proof_log.specs.Cuts.{EndsAt};
 ghost use Rattle.poly_model.specs.Content.{signed_by};
 ghost use Rattle.poly_model.specs.declared.limits.TheConstants.{MOST_LETTERS, MOST_SIZE};
@@ -10,7 +11,8 @@ use crate::limits::{MOST_INDEX, MOST_PROOFS, VERSION};
 use poly_model::{MOST_CONCLUSIONS, MOST_LETTERS, MOST_SIZE, Reason};
 use poly_text::read_number;
 use crate::cut::cut;
-use std::alloc::{AllocError, Global};
+use crate::fault::LineFault;
+use std::alloc::Global;
 use proof_steps::Path;
 
 /// A small field of a line: a version, how many proofs or which, a conclusion, an equation or a condition, a multiplier,
@@ -195,27 +197,31 @@ pub fn fields_at<'a>(
     alloc: Global,
     kinds: &[FieldKind],
     text: &'a [u8],
-) -> Result<Option<(Vec<Field>, &'a [u8])>, AllocError>
-    ensures reads { IfOk result (λ o. IfSome o (λ x. AreAt kinds.now x.0.items
-        × (text.now ≡ fields_text x.0.items ++ x.1.now))) }
-    ensures only { IfOk result (λ o. (fs : List Field) (rest : List ℕ) → AreAt kinds.now fs
-        → EndsAt 32 rest → text.now ≡ fields_text fs ++ rest
-        → MatchOption o ⊥ (λ x. (x.0.items ≡ fs) × (x.1.now ≡ rest))) }
+) -> Result<(Vec<Field>, &'a [u8]), LineFault>
+    ensures reads { IfOk result (λ x. AreAt kinds.now x.0.items
+        × (text.now ≡ fields_text x.0.items ++ x.1.now)) }
+    ensures only { (fs : List Field) (rest : List ℕ) → AreAt kinds.now fs → EndsAt 32 rest
+        → text.now ≡ fields_text fs ++ rest
+        → IfOk result (λ x. (x.0.items ≡ fs) × (x.1.now ≡ rest)) }
+    ensures refuses { IsErrOf result LineFault.Malformed → (fs : List Field) (rest : List ℕ)
+        → AreAt kinds.now fs → EndsAt 32 rest → text.now ≢ fields_text fs ++ rest }
 {
     let mut fields = Vec::new(alloc);
     let mut rest = text;
     let mut left = kinds;
     while let Some((kind, after)) = left.split_first() {
         let Some(behind) = behind_blank(rest) else {
-            return Ok(None);
+            return Err(LineFault::Malformed);
         };
         let (word, next) = cut(b' ', behind);
         let Some(field) = field_of(*kind, word) else {
-            return Ok(None);
+            return Err(LineFault::Malformed);
         };
-        fields.push(field)?;
+        let Ok(()) = fields.push(field) else {
+            return Err(LineFault::OutOfMemory);
+        };
         rest = next;
         left = after;
     }
-    Ok(Some((fields, rest)))
+    Ok((fields, rest))
 }

@@ -1,6 +1,7 @@
 //! Logs of proofs: a log as a whole value, its lines, and the text of its lines.
 #![tactic(auto)]
 
+mod attempt;
 mod cut;
 mod fault;
 mod field;
@@ -9,6 +10,7 @@ mod limits;
 mod line;
 mod log;
 mod tail;
+mod told;
 
 pub use laws::texts_are_unique;
 pub use limits::{MOST_INDEX, MOST_PROOFS, VERSION};

@@ -83,7 +83,7 @@ fn name_list(alloc: Global, text: &[u8]) -> Result<Vec<VarName>, LineFault>
 }
 
 /// The variables that a text spells, each kind numbered from 1.
-fn names_of(alloc: Global, text: &[u8]) -> Result<Vars, LineFault>
+pub fn names_of(alloc: Global, text: &[u8]) -> Result<Vars, LineFault>
     ensures reads { IfOk result (λ vars. IsTrue (are_variables vars)
         × (text.now ≡ names_text vars)) }
     ensures refuses { IsErrOf result LineFault.Malformed → (ns : List VarName)
@@ -98,7 +98,7 @@ fn names_of(alloc: Global, text: &[u8]) -> Result<Vars, LineFault>
     }
 }
 
-fn poly_of(alloc: Global, text: &[u8], vars: &Vars) -> Result<OwnedPoly, LineFault>
+pub fn poly_of(alloc: Global, text: &[u8], vars: &Vars) -> Result<OwnedPoly, LineFault>
     ensures reads { IfOk result (λ p. FitsPoly vars.now p × (text.now ≡ poly_text vars.now p)) }
     ensures refuses { IsErrOf result LineFault.Malformed → (p : Polynomial)
         → FitsPoly vars.now p → text.now ≢ poly_text vars.now p }
@@ -123,7 +123,7 @@ fn behind_mark(first: bool, text: &[u8]) -> Option<&[u8]>
 }
 
 /// The polynomials that a text spells, at least one.
-fn polys_of(alloc: Global, text: &[u8], vars: &Vars) -> Result<Vec<OwnedPoly>, LineFault>
+pub fn polys_of(alloc: Global, text: &[u8], vars: &Vars) -> Result<Vec<OwnedPoly>, LineFault>
     ensures reads { IfOk result (λ ps. (1 ≤ length ps.items) × FitPolys vars.now ps.items
         × (text.now ≡ polys_text vars.now ps.items)) }
     ensures refuses { IsErrOf result LineFault.Malformed → (ps : List Polynomial)
