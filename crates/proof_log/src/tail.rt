@@ -4,13 +4,16 @@ ghost use Rattle.poly_model.specs.Names.{are_variables, number};
 ghost use Rattle.poly_model.specs.Polynomial.{Polynomial};
 ghost use Rattle.poly_model.specs.declared.vars.VarName.{VarName};
 ghost use Rattle.poly_text.specs.Text.{poly_text, variable_text};
-ghost use Rattle.proof_log.specs.Kinds.{AreNames, poly_mark};
-ghost use Rattle.proof_log.specs.Text.{FitsPoly, FitPolys, polys_text, names_text};
+ghost use Rattle.proof_log.specs.Kinds.{AreNames, poly_mark, tail_kind_of};
+ghost use Rattle.proof_log.specs.declared.tail.TailKind.{TailKind};
+ghost use Rattle.proof_log.specs.Text.{FitsPoly, FitPolys, polys_text, names_text, Tail, tail_text, FitsTail};
 ghost use Rattle.proof_log.specs.declared.fault.LineFault.{LineFault};
 
 use crate::cut::cut;
 use crate::fault::LineFault;
+use crate::attempt::attempt_of;
 use crate::field::{behind_blank, number_of};
+use crate::told::verdict_of;
 use poly_model::{MOST_VARIABLES, OwnedPoly, VarName, Vars};
 use poly_text::{PolyFault, read_poly};
 use proof_steps::Attempt;
@@ -151,5 +154,63 @@ pub fn polys_of(alloc: Global, text: &[u8], vars: &Vars) -> Result<Vec<OwnedPoly
         }
         rest = next;
         first = false;
+    }
+}
+
+/// The rest of a line behind its blank.
+fn tail_behind(
+    alloc: Global,
+    kind: TailKind,
+    behind: &[u8],
+    vars: &Vars,
+) -> Result<Tail, LineFault>
+    ensures reads { IfOk result (λ t. (tail_kind_of t ≡ kind) × FitsTail vars.now t
+        × (32 ∷ behind.now ≡ tail_text vars.now t)) }
+    ensures refuses { kind ≢ TailKind.Nothing → kind ≢ TailKind.Names
+        → IsErrOf result LineFault.Malformed → (t : Tail) → tail_kind_of t ≡ kind
+        → FitsTail vars.now t → 32 ∷ behind.now ≢ tail_text vars.now t }
+{
+    match kind {
+        TailKind::Poly => match poly_of(alloc, behind, vars) {
+            Ok(p) => Ok(Tail::Poly(p)),
+            Err(fault) => Err(fault),
+        },
+        TailKind::Tried => match attempt_of(alloc, behind) {
+            Ok(attempt) => Ok(Tail::Tried(attempt)),
+            Err(fault) => Err(fault),
+        },
+        TailKind::Told => match verdict_of(alloc, behind, vars) {
+            Ok(verdict) => Ok(Tail::Told(verdict)),
+            Err(fault) => Err(fault),
+        },
+        TailKind::Nothing | TailKind::Names => Err(LineFault::Malformed),
+    }
+}
+
+/// The rest of a line.
+pub fn tail_of(
+    alloc: Global,
+    kind: TailKind,
+    text: &[u8],
+    vars: &Vars,
+) -> Result<Tail, LineFault>
+    ensures reads { IfOk result (λ t. (tail_kind_of t ≡ kind) × FitsTail vars.now t
+        × (text.now ≡ tail_text vars.now t)) }
+    ensures refuses { IsErrOf result LineFault.Malformed → (t : Tail) → tail_kind_of t ≡ kind
+        → FitsTail vars.now t → text.now ≢ tail_text vars.now t }
+{
+    match kind {
+        TailKind::Nothing => match text {
+            [] => Ok(Tail::Nothing),
+            _ => Err(LineFault::Malformed),
+        },
+        TailKind::Names => match names_of(alloc, text) {
+            Ok(vars) => Ok(Tail::Names(vars)),
+            Err(fault) => Err(fault),
+        },
+        TailKind::Poly | TailKind::Tried | TailKind::Told => match behind_blank(text) {
+            Some(behind) => tail_behind(alloc, kind, behind, vars),
+            None => Err(LineFault::Malformed),
+        },
     }
 }
