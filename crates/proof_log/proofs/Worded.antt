@@ -176,12 +176,6 @@ are_at [] (k ∷ ks) e f = cc
 are_at (f ∷ fs) [] e g = cc
 are_at (f ∷ fs) (k ∷ ks) e g = let h : (kind_of f ≡ k) × (map kind_of fs ≡ ks) = (cc, cc) in ((h.0, g.0), are_at fs ks h.1 g.1)
 
-pub fields_fit : (ks : List FieldKind) (fs : List Field) → AreAt ks fs → FitFields fs
-fields_fit [] [] h = tt
-fields_fit [] (f ∷ fs) h = absurd h
-fields_fit (k ∷ ks) [] h = absurd h
-fields_fit (k ∷ ks) (f ∷ fs) h = (h.0.1, fields_fit ks fs h.1)
-
 module _ (names : List VarName) (text front behind : List ℕ) (l : LogLine) (parts : text ≡ front ++ behind) (plain : Avoids 32 front) (ends : EndsAt 32 behind) (is : text ≡ line_text names l) where
   pub line_cut : (front ≡ word_text (row_of l).word) × (behind ≡ fields_text (row_of l).fields ++ tail_text names (row_of l).tail)
   line_cut = row_cut text front behind (word_text (row_of l).word) (row_of l).fields (tail_text names (row_of l).tail) parts plain ends (word-high (row_of l).word) (tail_ends names (row_of l).tail) is
@@ -204,11 +198,3 @@ module _ (names : List VarName) (text front behind : List ℕ) (l : LogLine) (pa
         tail_kind = tailed l ∙ sym (t ∙ ap tail_kind same);
         tail = fits.1;
       }
-
--- what was read is a line, and spelled so
-pub line_read : (names : List VarName) (text front behind after : List ℕ) (word : LineWord) (kinds : List FieldKind) (fs : List Field) (t : Tail) (l : LogLine) → text ≡ front ++ behind → front ≡ word_text word → AreAt kinds fs
-    → behind ≡ fields_text fs ++ after → FitsTail names t → after ≡ tail_text names t → row_of l ≡ row word fs t → IsLine names l × (text ≡ line_text names l)
-line_read names text front behind after word kinds fs t l parts w f b g a e = (
-  subst (λ (r : Row). FitFields r.fields × FitsTail names r.tail) (sym e) (fields_fit kinds fs f, g),
-  parts ∙ (λ i. w i ++ b i) ∙ ap (λ x. word_text word ++ (fields_text fs ++ x)) a ∙ ap (λ (r : Row). word_text r.word ++ (fields_text r.fields ++ tail_text names r.tail)) (sym e),
-)

@@ -50,6 +50,9 @@ AreAt [] (f ∷ fs) = ⊥
 AreAt (k ∷ ks) [] = ⊥
 AreAt (k ∷ ks) (f ∷ fs) = IsAt k f × AreAt ks fs
 
+abbrev pub words : List LineWord
+words = word.Head ∷ word.Proves ∷ word.Prove ∷ word.Vars ∷ word.Hyp ∷ word.Con ∷ word.Node ∷ word.Drop ∷ word.Red ∷ word.Tail ∷ word.Split ∷ word.Close ∷ word.Clash ∷ word.System ∷ word.Step ∷ word.Proved ∷ word.Remainder ∷ word.Unreduced ∷ word.Open ∷ word.Eq ∷ word.Ne ∷ word.Verdict ∷ word.End ∷ []
+
 abbrev pub field_kinds : LineWord → List FieldKind
 field_kinds word.Head = kind.Version ∷ []
 field_kinds word.Proves = kind.Proofs ∷ []
