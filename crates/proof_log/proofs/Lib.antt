@@ -9,3 +9,4 @@ mod Spelled
 mod Plain
 mod Rows
 mod Worded
+mod Fronts

@@ -3,3 +3,5 @@ pub mod Text
 pub mod Lengths
 pub mod Cuts
 pub mod Kinds
+pub mod Grammar
+pub mod Places

@@ -10,6 +10,7 @@ mod limits;
 mod line;
 mod line_reading;
 mod log;
+mod place;
 mod tail;
 mod told;
 mod words;
