@@ -243,7 +243,7 @@ pub added : (n left : ℕ) (ls tail next : List LogLine) (l : LogLine) (a : Piec
 added n left ls tail next l a e = ap (λ t. t ++ l ∷ []) a.lines ∙ snoc (begun n (suc left) a.before) (line.Prove (this n left a.before) ∷ problem_lines a.problem) (flat_map piece_lines a.pieces) tail (l ∷ [])
     ∙ ap (λ t. begun n (suc left) a.before ++ ((line.Prove (this n left a.before) ∷ problem_lines a.problem) ++ (flat_map piece_lines a.pieces ++ t))) e
 
-pub add : (n left : ℕ) (ls tail next : List LogLine) (l : LogLine) → Pieces n left ls tail → tail ++ l ∷ [] ≡ next → Pieces n left (ls ++ l ∷ []) next
+abbrev pub add : (n left : ℕ) (ls tail next : List LogLine) (l : LogLine) → Pieces n left ls tail → tail ++ l ∷ [] ≡ next → Pieces n left (ls ++ l ∷ []) next
 add n left ls tail next l a e = record { before = a.before; problem = a.problem; sized = a.sized; pieces = a.pieces; written = a.written; lines = added n left ls tail next l a e }
 
 pub tail_is : (n left : ℕ) (ls tail next : List LogLine) → Pieces n left ls tail → tail ≡ next → Pieces n left ls next

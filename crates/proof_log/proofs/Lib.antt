@@ -10,3 +10,4 @@ mod Plain
 mod Rows
 mod Worded
 mod Fronts
+mod Steps

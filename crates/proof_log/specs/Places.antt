@@ -89,14 +89,25 @@ if_whole place next = if place.whole then Some (record place { whole = next }) e
 abbrev pub if_not_whole : Place → Bool → Option Place
 if_not_whole place next = if place.whole then None else Some (record place { whole = next })
 
+-- The place where the next proof has begun, if this is its number; and where there is one more hypothesis or conclusion,
+-- if there may be.
+abbrev pub proof_at : Place → ℕ → Option Place
+proof_at place k = if (k == (place.proofs - place.left) + 1) && nat_lt 0 place.left then Some (record place { left = place.left - 1; hyps = 0; cons = 0 }) else None
+
+abbrev pub hyp_at : Place → Option Place
+hyp_at place = if nat_lt place.hyps MOST_HYPOTHESES then Some (record place { hyps = place.hyps + 1 }) else None
+
+abbrev pub con_at : Place → Option Place
+con_at place = if nat_lt place.cons MOST_CONCLUSIONS then Some (record place { cons = place.cons + 1; whole = true }) else None
+
 -- The counts behind a line, if they allow it; the part is not looked at.
 abbrev pub counted : Place → LogLine → Option Place
 counted place (line.Head version) = Some place
 counted place (line.Proves n) = Some (record place { proofs = n; left = n })
-counted place (line.Prove k) = if (k == (place.proofs - place.left) + 1) && nat_lt 0 place.left then Some (record place { left = place.left - 1; hyps = 0; cons = 0 }) else None
+counted place (line.Prove k) = proof_at place k
 counted place (line.Vars names) = Some place
-counted place (line.Hyp p) = if nat_lt place.hyps MOST_HYPOTHESES then Some (record place { hyps = place.hyps + 1 }) else None
-counted place (line.Con p) = if nat_lt place.cons MOST_CONCLUSIONS then Some (record place { cons = place.cons + 1; whole = true }) else None
+counted place (line.Hyp p) = hyp_at place
+counted place (line.Con p) = con_at place
 counted place (line.Node path) = if_whole place false
 counted place (line.Drop i) = Some place
 counted place (line.Red g f m r) = Some place

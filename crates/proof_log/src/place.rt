@@ -1,8 +1,6 @@
 ghost use Rattle.std.specs.Prelude.{◌≡◌, Option, Some, None, Bool};
 ghost use Rattle.proof_log.specs.Text.{row_of};
-ghost use Rattle.proof_log.specs.Places.{stands, part_behind, counted, goes, start, is_done, whole_at, if_whole, if_not_whole};
-ghost use Rattle.poly_model.specs.Polynomial.{Polynomial};
-ghost use Rattle.proof_log.specs.declared.line.LogLine.{LogLine};
+ghost use Rattle.proof_log.specs.Places.{stands, part_behind, counted, goes, start, is_done, whole_at, if_whole, if_not_whole, proof_at, hyp_at, con_at};
 
 use crate::line::{LineWord, LogLine};
 use poly_model::{MOST_CONCLUSIONS, MOST_HYPOTHESES};
@@ -120,7 +118,7 @@ fn if_not_whole(place: Place, whole: bool) -> Option<Place>
 
 /// The place where the next proof begins, if it has this number.
 fn proof_at(place: Place, k: u8) -> Option<Place>
-    ensures { result ≡ counted place (LogLine.Prove k) }
+    ensures { result ≡ proof_at place k }
 {
     let next = place.proofs.saturating_sub(place.left) as u16 + 1;
     if k as u16 == next && place.left > 0 {
@@ -136,7 +134,7 @@ fn proof_at(place: Place, k: u8) -> Option<Place>
 }
 
 fn hyp_at(place: Place) -> Option<Place>
-    ensures { (p : Polynomial) → result ≡ counted place (LogLine.Hyp p) }
+    ensures { result ≡ hyp_at place }
 {
     if (place.hyps as usize) < MOST_HYPOTHESES {
         Some(Place {
@@ -149,7 +147,7 @@ fn hyp_at(place: Place) -> Option<Place>
 }
 
 fn con_at(place: Place) -> Option<Place>
-    ensures { (p : Polynomial) → result ≡ counted place (LogLine.Con p) }
+    ensures { result ≡ con_at place }
 {
     if (place.cons as usize) < MOST_CONCLUSIONS {
         Some(Place {
