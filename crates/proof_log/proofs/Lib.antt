@@ -11,3 +11,5 @@ mod Rows
 mod Worded
 mod Fronts
 mod Steps
+mod Completed
+mod Runs
