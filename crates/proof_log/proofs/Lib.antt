@@ -13,3 +13,4 @@ mod Fronts
 mod Steps
 mod Completed
 mod Runs
+mod Logs

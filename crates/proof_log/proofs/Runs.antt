@@ -32,7 +32,7 @@ abbrev pub run_from : Option Place → List LogLine → Option Place
 run_from o ls = elim o [ None ↦ None | Some t ↦ run t ls ]
 
 -- ---- one line
-one : (s t : Place) (l : LogLine) (ls : List LogLine) → goes s l ≡ Some t → run s (l ∷ ls) ≡ run t ls
+pub one : (s t : Place) (l : LogLine) (ls : List LogLine) → goes s l ≡ Some t → run s (l ∷ ls) ≡ run t ls
 unfolding run
 one s t l ls e = ap (λ o. run_from o ls) e
 
@@ -164,7 +164,7 @@ module _ (n left h c : ℕ) where
       let m = run_others k.to ps rest k.is in
       record { to = m.to; is = m.is; runs = ap (run (at from n left h c true)) (append_assoc (piece_lines p) (flat_map piece_lines ps) rest) ∙ k.runs ∙ m.runs }
 
-  run_pieces : (ps : List Piece) (rest : List LogLine) → 1 ≤ length ps → Ended (at part.Cons n left h c true) (flat_map piece_lines ps) rest
+  pub run_pieces : (ps : List Piece) (rest : List LogLine) → 1 ≤ length ps → Ended (at part.Cons n left h c true) (flat_map piece_lines ps) rest
   run_pieces [] rest some = absurd (omega (arith, some))
   run_pieces (p ∷ ps) rest some =
       let k = run_piece part.Cons p (flat_map piece_lines ps ++ rest) (inl refl) in
