@@ -5,3 +5,5 @@ pub mod Cuts
 pub mod Kinds
 pub mod Writing
 pub mod Own
+pub mod Grammar
+pub mod Places
