@@ -12,3 +12,9 @@ mod Cutting
 mod Spelled
 mod Plain
 mod Rows
+mod Worded
+mod Fronts
+mod Steps
+mod Completed
+mod Runs
+mod Logs

@@ -6,3 +6,5 @@ pub mod Cuts
 pub mod Kinds
 pub mod Writing
 pub mod Own
+pub mod Grammar
+pub mod Places
