@@ -1,5 +1,7 @@
 //! One node of a proof worked to its outcome, by the order of work.
 #![tactic(auto)]
 
+mod concluding;
+mod expanding;
 mod opening;
 mod working;

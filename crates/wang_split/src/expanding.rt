@@ -1,0 +1,44 @@
+// The work on one node.
+ghost use Rattle.std.specs.Prelude.{◌≡◌, ◌≤◌, ◌+◌, IfOk, length};
+ghost use Rattle.poly_model.specs.declared.limits.TheConstants.{EXPAND_UNITS, MOST_CONCLUSIONS, MOST_FUEL, MOST_HYPOTHESES};
+ghost use Rattle.proof_steps.specs.Rules.{size_of};
+ghost use Rattle.proof_steps.specs.Trees.{expansion_of};
+ghost use Rattle.term_store.specs.Changes.{Keeps};
+ghost use Rattle.wang_split.specs.Expanded.{nodes_of};
+
+use crate::concluding::conclude;
+use crate::opening::open;
+use crate::working::work;
+use poly_model::OwnedPoly;
+use proof_steps::{Node, Piece};
+use std::alloc::{AllocError, Global};
+use term_store::TermStore;
+use workbench::release;
+
+/// Works a node to its outcome by the rules that are due, one after the other: the piece that records the work, and the two
+/// children, `+` before `-`, exactly where the node is split.
+pub fn expand<S: TermStore>(
+    alloc: Global,
+    s: &mut S,
+    node: &Node,
+    cons: &[OwnedPoly],
+) -> Result<(Piece, Option<(Node, Node)>), AllocError>
+    requires fuel { size_of node.now ≤ node.now.fuel }
+    requires most { node.now.fuel ≤ MOST_FUEL }
+    requires few { length node.now.eqs + length node.now.nes
+        ≤ MOST_HYPOTHESES + length node.now.path }
+    requires cons { length cons.now ≤ MOST_CONCLUSIONS }
+    requires room { EXPAND_UNITS ≤ (S.state s.old).spare }
+    ensures piece { IfOk result (λ e. e.0 ≡ (expansion_of 1 cons.now node.now).0) }
+    ensures children { IfOk result (λ e. nodes_of e.1 ≡ (expansion_of 1 cons.now node.now).1) }
+    ensures kept { Keeps (S.state s.old) (S.state s.new) }
+{
+    let mut bench = open(alloc, s, node)?;
+    let mut steps = Vec::new(alloc);
+    let expanded = match work(alloc, s, &mut bench, &mut steps) {
+        Ok(halt) => conclude(alloc, s, &bench, steps, halt, cons),
+        Err(refused) => Err(refused),
+    };
+    release(s, bench);
+    expanded
+}
