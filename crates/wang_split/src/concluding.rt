@@ -42,9 +42,13 @@ fn listed<S: TermStore>(
 ) -> Result<Piece, AllocError>
     requires eqs { AreFound (S.state s.now) bench.now.eqs.items }
     requires nes { AreHeld (S.state s.now) bench.now.nes.items }
-    ensures { IfOk result (λ p. p ≡ record { path = bench.now.path; steps = steps.items;
-        eqs = (node_at (S.state s.now) bench.now).eqs;
-        nes = (node_at (S.state s.now) bench.now).nes; outcome = outcome }) }
+    ensures { IfOk result (λ p. p ≡ record {
+      path = bench.now.path;
+      steps = steps.items;
+      eqs = (node_at (S.state s.now) bench.now).eqs;
+      nes = (node_at (S.state s.now) bench.now).nes;
+      outcome = outcome;
+    }) }
 {
     let eqs = copy_equations(alloc, s, &bench.eqs)?;
     let nes = copy_conditions(alloc, s, &bench.nes)?;
