@@ -74,8 +74,8 @@ fn polys(alloc: Global, hs: &[Held]) -> Result<Vec<Poly>, AllocError>
     Ok(ps)
 }
 
-/// The piece of a node whose equations are a triangular system: the conclusions are reduced with the fuel that is left after
-/// the node's own size.
+/// The piece of a node whose equations are a triangular system: the conclusions are reduced with
+/// the fuel that is left after the node's own size.
 fn solved<S: TermStore>(
     alloc: Global,
     s: &mut S,
@@ -98,7 +98,8 @@ fn solved<S: TermStore>(
     listed(alloc, s, bench, steps, Outcome::System { chain, status })
 }
 
-/// The piece and the children of a node that is split, or that is left open since the split is stopped.
+/// The piece and the children of a node that is split, or that is left open since the split is
+/// stopped.
 fn parted<S: TermStore>(
     alloc: Global,
     s: &mut S,

@@ -34,8 +34,8 @@ fn finish<S: TermStore>(
     conclude(alloc, s, bench, steps, halt, cons)
 }
 
-/// Works a node to its outcome by the rules that are due, one after the other: the piece that records the work, and the two
-/// children, `+` before `-`, exactly where the node is split.
+/// Works a node to its outcome by the rules that are due, one after the other: the piece that
+/// records the work, and the two children, `+` before `-`, exactly where the node is split.
 pub fn expand<S: TermStore>(
     alloc: Global,
     s: &mut S,

@@ -1,4 +1,5 @@
-//! One node of a proof worked to its outcome: by the rules of elimination that are due, one after the other, over any store.
+//! One node of a proof worked to its outcome: by the rules of elimination that are due, one after
+//! the other, over any store.
 #![tactic(auto)]
 
 mod concluding;
@@ -8,3 +9,6 @@ mod working;
 
 pub use expanding::expand;
 pub use proof_steps::Node;
+
+#[cfg(test)]
+mod tests;
