@@ -63,16 +63,16 @@ opened s a b d c n eqs first second polys tell k path fuel size enough most few 
     let m : length (map (held_at b) c.eqs.items) ≡ length c.eqs.items = length-map c.eqs.items (held_at b) in
     let l : length (map (polynomial_at b) c.nes.items) ≡ length c.nes.items = length-map c.nes.items (polynomial_at b) in
     let be = benches.kept s b d c (
-      record {
-        owns = owns-append s a b (map held_slot c.eqs.items) (map slot_of c.nes.items)
-            (subst (Owns a b) (sym (held-slots c.eqs.items ∙ ap (map slot_of) polys)) second.owns) first.owns;
-        tell = tell;
-        standard = subst AllStandard (sym nes) first.standard;
-        size = size ∙ ap size_of (sym node);
-        fuel = omega (arith, size, enough, fuel);
-        most = omega (arith, most, fuel);
-        few = omega (arith, few, letters, m, ap length E);
-        few_nes = omega (arith, few, letters, l, ap length nes);
-      }
+    record {
+      owns = owns-append s a b (map held_slot c.eqs.items) (map slot_of c.nes.items)
+          (subst (Owns a b) (sym (held-slots c.eqs.items ∙ ap (map slot_of) polys)) second.owns) first.owns;
+      tell = tell;
+      standard = subst AllStandard (sym nes) first.standard;
+      size = size ∙ ap size_of (sym node);
+      fuel = omega (arith, size, enough, fuel);
+      most = omega (arith, most, fuel);
+      few = omega (arith, few, letters, m, ap length E);
+      few_nes = omega (arith, few, letters, l, ap length nes);
+    }
     ) k in
     record { stands = be.stands; node = be.node ∙ node }
