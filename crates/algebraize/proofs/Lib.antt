@@ -9,5 +9,8 @@ pub mod Places
 pub mod Texts
 pub mod Proves
 pub mod Over
+pub mod Lengths
+pub mod Stated
 pub mod Effects
 pub mod OtherWords
+pub mod Ratios

@@ -20,7 +20,7 @@ use Rattle.algebraize.proofs.Related as related
 use Rattle.algebraize.proofs.Related.{IsKept}
 
 -- The ring of one member.
-abbrev one_member : Operations (Unit {0})
+abbrev pub one_member : Operations (Unit {0})
 one_member = record { zero = tt; one = tt; add = λ a b. tt; mul = λ a b. tt; neg = λ a. tt }
 
 -- Only the first n variables occur.

@@ -11,7 +11,7 @@ use Rattle.gcl_reader.specs.Grammar.{◌>>=◌, Fails, Gives}
 use Rattle.gcl_reader.specs.declared.refusal.GclFault.TheVariants as fault
 use Rattle.gcl_reader.specs.declared.refusal.GclFault.{GclFault}
 use Rattle.poly_model.specs.Domain.{Operations}
-use Rattle.algebraize.specs.declared.problem.Problem.{Problem}
+use Rattle.proof_steps.specs.declared.problem.Problem.{Problem}
 use Rattle.algebraize.specs.Formed.{equations}
 use Rattle.gcl_reader.specs.declared.refusal.Refusal.{Refusal}
 use Rattle.gcl_reader.specs.declared.refusal.Kind.TheVariants as kind
@@ -256,6 +256,11 @@ asks_nothing d e none = cc
 pub gives_ok : {Q : Problem → Type 0} (r : Result Problem GclFault) (x : Result Equations Refusal) → Gives equations r x → ((p : Problem) → x ≡ Ok (equations p) → Q p) → IfOk r Q
 gives_ok (Ok p) x g f = f p g
 gives_ok (Err e) x g f = tt
+
+pub gives_ok_with : {P Q : Problem → Type 0} (r : Result Problem GclFault) (x : Result Equations Refusal) → Gives equations r x → IfOk r P
+    → ((p : Problem) → x ≡ Ok (equations p) → P p → Q p) → IfOk r Q
+gives_ok_with (Ok p) x g h f = f p g h
+gives_ok_with (Err e) x g h f = tt
 
 -- Problems behind those that are formed.
 abbrev pub behind : List Equations → Result (List Equations) Refusal → Result (List Equations) Refusal

@@ -109,16 +109,19 @@ abs-signed : (s : Bool) (z : ℤ) → unsigned_abs (signed_by s z) ≡ unsigned_
 abs-signed true z = abs_neg z
 abs-signed false z = refl
 
+pub size-quotient : (c : ℤ) (m : ℕ) → unsigned_abs (quotient_of c m) ≡ unsigned_abs c / m
+size-quotient (pos a) m = refl
+size-quotient (negsuc a) m = abs_neg (pos (suc a / m))
+
 pub abs-quotient : (c : ℤ) (m : ℕ) → unsigned_abs (quotient_of c m) ≤ unsigned_abs c
-abs-quotient (pos a) m = div-le a m
-abs-quotient (negsuc a) m = omega (arith, abs_neg (pos (suc a / m)), div-le (suc a) m)
+abs-quotient c m = omega (arith, size-quotient c m, div-le (unsigned_abs c) m)
 
 weight-divided : (s : Bool) (m : ℕ) (p : Polynomial) → weight (entries_divided s m p) ≤ weight p
 weight-divided s m [] = omega arith
 weight-divided s m ((es, c) ∷ p) = omega (arith, abs-signed s (quotient_of c m), abs-quotient c m, weight-divided s m p)
 
 -- Lengths.
-length-with_entry : (es : List ℕ) (c : ℤ) (p : Polynomial) → length (with_entry es c p) ≤ suc (length p)
+pub length-with_entry : (es : List ℕ) (c : ℤ) (p : Polynomial) → length (with_entry es c p) ≤ suc (length p)
 length-with_entry es (pos zero) p = omega arith
 length-with_entry es (pos (suc n)) p = omega arith
 length-with_entry es (negsuc n) p = omega arith
@@ -168,7 +171,7 @@ above_test e ((fs, c) ∷ p) a = ap is_gt a.0
 eq_true : (a b : ℕ) → a ≡ b → nat_eq a b ≡ true
 eq_true a b e = grind (arith, nat_tests)
 
-le_true : (a b : ℕ) → a ≤ b → nat_le a b ≡ true
+pub le_true : (a b : ℕ) → a ≤ b → nat_le a b ≡ true
 le_true a b le = grind (arith, nat_tests)
 
 lt_true : (a b : ℕ) → a < b → nat_lt a b ≡ true

@@ -3,7 +3,7 @@ use Rattle.std.proofs.Common.{◌≡◌, ◌≤◌, ◌<◌, ◌+◌, ℕ, zero,
 use Rattle.std.specs.List.{list_all}
 use Rattle.poly_model.specs.Polynomial.{Polynomial, is_over}
 use Rattle.poly_model.specs.declared.vars.VarName.{VarName}
-use Rattle.algebraize.specs.declared.problem.Problem.{Problem}
+use Rattle.proof_steps.specs.declared.problem.Problem.{Problem}
 use Rattle.algebraize.specs.Equations.{Equations}
 use Rattle.algebraize.specs.Formed.{equations, is_own}
 use Rattle.algebraize.specs.System.{line_end, name_text, names_text, polynomial_line, polynomial_lines, problem_text, problems_text}

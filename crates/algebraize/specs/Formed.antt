@@ -6,7 +6,7 @@ use Rattle.poly_model.specs.Polynomial.{Polynomial, is_over}
 use Rattle.algebraize.specs.declared.figure.Figure.{Figure}
 use Rattle.algebraize.specs.declared.figure.Effect.{Effect}
 use Rattle.algebraize.specs.declared.figure.Effect.TheVariants as formed
-use Rattle.algebraize.specs.declared.problem.Problem.{Problem}
+use Rattle.proof_steps.specs.declared.problem.Problem.{Problem}
 use Rattle.algebraize.specs.Curves.{Curves, no_line, no_circle}
 use Rattle.algebraize.specs.Equations.{Equations, polynomials}
 use Rattle.algebraize.specs.Figure as figure

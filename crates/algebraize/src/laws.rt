@@ -1,10 +1,12 @@
 // What the equations of a figure mean.
-ghost use Rattle.std.specs.Prelude.{◌≤◌, List, ℕ, length};
+ghost use Rattle.std.specs.Prelude.{◌≡◌, ◌≤◌, ◌<◌, ◌*◌, ◌*ℤ◌, List, ℕ, ℤ, pos, length, unsigned_abs};
 ghost use Rattle.gcl_reader.specs.declared.word.Statement.{Statement};
 ghost use Rattle.gcl_names.specs.declared.program.Act.{Act};
 ghost use Rattle.poly_model.specs.declared.limits.TheConstants.{MOST_VARIABLES};
 ghost use Rattle.algebraize.specs.Layout.{layout_of};
 ghost use Rattle.algebraize.specs.Equations.{Mean, equations_of};
+ghost use Rattle.algebraize.specs.Ratio.{denominator, numerator};
+ghost use Rattle.algebraize.specs.declared.ratio.TheConstants.{MILLIONTHS};
 ghost use Rattle.algebraize.specs.Laws.{CutCircleLaw, CutLineLaw, FootLaw, IntersecLaw, LineLaws, MidpointLaw, OncircleLaw, OnlineLaw, StatementLaws, TowardsLaw, TranslateLaw};
 
 use poly_model::Domain;
@@ -32,4 +34,12 @@ pub fn constructions_in_other_words<D: Domain>(_d: &D)
 /// The conditions of each statement in other words.
 pub fn statements_in_other_words<D: Domain>(_d: &D)
     ensures { StatementLaws D.operations }
+{}
+
+/// The ratio of a number of millionths has the number's value, and is in lowest terms.
+pub fn ratios_are_in_lowest_terms()
+    ensures value { (t : ℤ) → numerator t *ℤ pos MILLIONTHS ≡ t *ℤ pos (denominator t) }
+    ensures positive { (t : ℤ) → 0 < denominator t }
+    ensures lowest { (t : ℤ) (k m n : ℕ) → k * m ≡ unsigned_abs (numerator t)
+        → k * n ≡ denominator t → k ≡ 1 }
 {}

@@ -15,9 +15,11 @@ mod terms;
 mod vectors;
 
 pub use laws::{
-    constructions_in_other_words, equations_mean_their_figure, statements_in_other_words,
+    constructions_in_other_words, equations_mean_their_figure, ratios_are_in_lowest_terms,
+    statements_in_other_words,
 };
-pub use problem::{Problem, problems, system_of};
+pub use problem::{problems, system_of};
+pub use proof_steps::Problem;
 pub use ratio::{MILLIONTHS, MOST_MILLIONTHS};
 pub use system::write_system;
 

@@ -1,9 +1,10 @@
 // The problem of a prove.
-ghost use Rattle.std.specs.Prelude.{IsTrue, ◌↔◌, ◌≡◌, ◌<◌, IfOk, OnOk, map};
+ghost use Rattle.std.specs.Prelude.{All, IsTrue, ◌≡◌, ◌<◌, IfOk, OnOk, map};
 ghost use Rattle.std.specs.List.{list_all};
 ghost use Rattle.gcl_names.specs.Sound.{IsSound};
 ghost use Rattle.gcl_reader.specs.Grammar.{Gives};
 ghost use Rattle.poly_model.specs.Content.{primitive_part};
+ghost use Rattle.proof_steps.specs.Stated.{IsStated, IsWithinLimits};
 ghost use Rattle.algebraize.specs.Equations.{polynomials};
 ghost use Rattle.algebraize.specs.Figure.{conditions_from};
 ghost use Rattle.algebraize.specs.Formed.{HasDefaults, curves_of, equations, is_own};
@@ -13,59 +14,9 @@ use crate::figure::Figure;
 use crate::layout::lay_out;
 use gcl_names::{Act, Deed, Program};
 use gcl_reader::{GclFault, Statement};
-use poly_model::{Domain, Integers, OwnedPoly, Row, Vars};
+use poly_model::{Domain, Integers, OwnedPoly, Row};
+use proof_steps::Problem;
 use std::alloc::{AllocError, Global};
-
-/// The problem of a prove: its variables, what the constructions before it make zero, and what it states is zero.
-#[derive(Drop)]
-pub struct Problem {
-    pub vars: Vars,
-    pub hyps: Row<OwnedPoly>,
-    pub cons: Row<OwnedPoly>,
-}
-
-fn same_variables(a: &Vars, b: &Vars) -> bool
-    ensures { IsTrue result ↔ (a.now ≡ b.now) }
-{
-    if a.len() != b.len() {
-        return false;
-    }
-    for i in 0..a.len() {
-        if a.at(i) != b.at(i) {
-            return false;
-        }
-    }
-    true
-}
-
-fn same_polynomials(a: &[OwnedPoly], b: &[OwnedPoly]) -> bool
-    ensures { IsTrue result ↔ (a.now ≡ b.now) }
-{
-    let mut left = a;
-    let mut right = b;
-    while let Some((p, others)) = left.split_first() {
-        let Some((q, more)) = right.split_first() else {
-            return false;
-        };
-        if !p.equals(q) {
-            return false;
-        }
-        left = others;
-        right = more;
-    }
-    right.is_empty()
-}
-
-impl Problem {
-    /// The two have the same variables, hypotheses and conclusions, in the same order.
-    pub fn equals(&self, other: &Problem) -> bool
-        ensures { IsTrue result ↔ (self.now ≡ other.now) }
-    {
-        same_variables(&self.vars, &other.vars)
-            && same_polynomials(self.hyps.as_slice(), other.hyps.as_slice())
-            && same_polynomials(self.cons.as_slice(), other.cons.as_slice())
-    }
-}
 
 /// What the acts make zero, over the places of the figure.
 fn hypotheses(
@@ -104,15 +55,18 @@ fn problem_at(
     statement: Statement,
     points: &[u32],
 ) -> Result<Problem, GclFault>
-    ensures { Gives equations result (problem_at before.now prove.now statement points.now) }
+    ensures value { Gives equations result (problem_at before.now prove.now statement points.now) }
+    ensures within { IfOk result IsWithinLimits }
 {
     let layout = lay_out(alloc, before, prove)?;
     let mut figure = Figure::general(alloc, &layout)?;
-    Ok(Problem {
+    let problem = Problem {
         vars: layout.vars(),
         hyps: hypotheses(alloc, &mut figure, before)?,
         cons: Row::from_vec(figure.conclusions(alloc, statement, points)?),
-    })
+    };
+    problem.is_within_limits();
+    Ok(problem)
 }
 
 /// How many acts stand before a prove, counted from 0; all of them, where there is no such prove.
@@ -151,6 +105,7 @@ pub fn system_of<D: Domain>(
     ensures value { Gives equations result (problem_of program.now.acts prove) }
     ensures mean { IfOk result (λ problem. MeanProve D.operations program.now.acts prove (equations problem)) }
     ensures own { IfOk result (λ problem. IsTrue (is_own problem)) }
+    ensures stated { IfOk result (λ problem. IsStated problem) }
 {
     let acts = program.acts.as_slice();
     let place = acts_before(acts, prove);
@@ -172,6 +127,7 @@ pub fn problems(alloc: Global, program: &Program) -> Result<Vec<Problem>, GclFau
     requires { IsSound program.now }
     ensures value { Gives (λ problems. map equations problems.items) result (problems_of program.now.acts) }
     ensures own { IfOk result (λ problems. IsTrue (list_all is_own problems.items)) }
+    ensures stated { IfOk result (λ problems. All IsStated problems.items) }
 {
     let mut problems = Vec::new(alloc);
     let mut prove = 0;

@@ -7,11 +7,11 @@ ghost use Rattle.poly_model.specs.Polynomial.{is_over};
 ghost use Rattle.algebraize.specs.Formed.{equations, is_own};
 ghost use Rattle.algebraize.specs.System.{line_end, name_text, names_text, polynomial_line, polynomial_lines, problem_text, problems_text, system_text};
 
-use crate::problem::Problem;
 use desk_io::{Failed, Pen, Sink};
 use itoa::Buffer;
 use poly_model::{OwnedPoly, VarName, Vars};
 use poly_text::{print_poly, write_variable};
+use proof_steps::Problem;
 
 fn write_name<S: Sink>(name: VarName, pen: &mut Pen, sink: &mut S) -> Result<(), Failed>
     ensures bytes { Writes (S.written sink.old) (S.written sink.new) pen.old pen.new result (name_text name) }

@@ -3,3 +3,5 @@ pub mod Dues
 pub mod Table
 pub mod Decided
 pub mod Outcomes
+pub mod Runs
+pub mod Single

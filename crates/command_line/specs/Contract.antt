@@ -3,7 +3,8 @@
 use Rattle.std.specs.Prelude.{◌≡◌, ℕ, ◌≤◌, ◌⊎◌, List, [], ◌∷◌, Option, Some, None}
 use Rattle.desk_io.specs.Causes.{Rose}
 use Rattle.desk_io.specs.Files.{Files, Lacks}
-use Rattle.command_line.specs.Answer.{Form, read_fault, answer_of, names_of}
+use Rattle.command_line.specs.Answer.{Answer, read_fault}
+use Rattle.command_line.specs.Table.{Form, IsAnswer, names_of}
 use Rattle.command_line.specs.Run.{Answers, Whole, CutOff, Nothing}
 use Rattle.command_line.specs.declared.status.Status.{Status}
 use Rattle.command_line.specs.declared.status.Status.TheVariants.{Done, Unproved, Rejected, Usage, ReadFault, WriteFault, OutOfMemory}
@@ -63,17 +64,19 @@ LacksOne held (name ∷ names) = Lacks held name ⊎ LacksOne held names
 pub record IsRun {K S N : Type 0} (v : Views K S N) (old new : Lent K S N) (form : Option Form) (status : Status) : Type 0 where
   -- The bytes and the status are those of the answer that is due; or a put failed, and fronts of them stand; or memory ran
   -- out before the first put.
-  pub answered : Answers (v.held old.desk) (DeskRose v old new) (answer_of form) (v.written old.out) (v.written new.out) (v.said old.notes) (v.said new.notes) status
+  pub answered : Answers (v.held old.desk) (DeskRose v old new) (IsAnswer form)
+      (v.written old.out) (v.written new.out) (v.said old.notes) (v.said new.notes) status
   -- Where the desk tells its files, the status is that of the answer over them, or a fault.
-  pub decided : (files : Files) → v.held old.desk ≡ Some files → (status ≡ (answer_of form files).status) ⊎ IsFault status
+  pub decided : (files : Files) → v.held old.desk ≡ Some files
+      → ((a : Answer) × IsAnswer form files a × (status ≡ a.status)) ⊎ IsFault status
   -- Where the desk tells its files and no fault rose, the answer over them is given whole, or memory ran out.
   pub complete : (files : Files) → v.held old.desk ≡ Some files → (DeskRose v old new → ⊥) → (OutRose v old new → ⊥) → (NotesRose v old new → ⊥)
-      → Whole (answer_of form files) (v.written old.out) (v.written new.out) (v.said old.notes) (v.said new.notes) status
+      → ((a : Answer) × IsAnswer form files a × Whole a (v.written old.out) (v.written new.out) (v.said old.notes) (v.said new.notes) status)
       ⊎ Nothing (v.written old.out) (v.written new.out) (v.said old.notes) (v.said new.notes) status
   -- Where the desk tells its files and a put failed, fronts of the answer's bytes stand on both sinks, and on notes only
   -- behind all of out's. Where the desk's faults rose, it may be the read fault that was cut off.
   pub cut_off : (files : Files) → v.held old.desk ≡ Some files → status ≡ WriteFault
-      → CutOff (answer_of form files) (v.written old.out) (v.written new.out) (v.said old.notes) (v.said new.notes) status
+      → ((a : Answer) × IsAnswer form files a × CutOff a (v.written old.out) (v.written new.out) (v.said old.notes) (v.said new.notes) status)
       ⊎ (DeskRose v old new × CutOff read_fault (v.written old.out) (v.written new.out) (v.said old.notes) (v.said new.notes) status)
   -- Wrong usage comes exactly where the words are no form, of whatever desk; then neither the desk nor out is touched.
   pub usage : status ≡ Usage → form ≡ None

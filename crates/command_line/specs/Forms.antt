@@ -1,6 +1,6 @@
 -- The form that the program takes the words for.
 use Rattle.std.specs.Prelude.{Option, Some, None}
-use Rattle.command_line.specs.Answer.{Form, text_form}
+use Rattle.command_line.specs.Table.{Form, TextOf}
 use Rattle.command_line.specs.Command.{Command}
 use Rattle.command_line.specs.Pipeline.{svg_of, latex_of, system_of, show_of}
 use Rattle.command_line.specs.declared.invocation.TextForm.{TextForm}
@@ -17,4 +17,4 @@ command_of Show = show_of
 
 abbrev pub form_seen : Invocation → Option Form
 form_seen Wrong = None
-form_seen (Text form name) = Some (text_form (command_of form) name.now)
+form_seen (Text form name) = Some (TextOf (command_of form) name.now)

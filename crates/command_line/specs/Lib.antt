@@ -1,5 +1,6 @@
 pub mod Note
 pub mod Answer
+pub mod Table
 pub mod Command
 pub mod Pipeline
 pub mod Forms

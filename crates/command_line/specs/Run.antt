@@ -33,16 +33,27 @@ pub record Nothing (out_old out_new notes_old notes_new : Option (List ℕ)) (st
 -- The ends of a run whose answer is due.
 abbrev pub Ends : Answer → Option (List ℕ) → Option (List ℕ) → Option (List ℕ) → Option (List ℕ) → Status → Type 0
 Ends answer out_old out_new notes_old notes_new status =
-    Whole answer out_old out_new notes_old notes_new status ⊎ CutOff answer out_old out_new notes_old notes_new status ⊎ Nothing out_old out_new notes_old notes_new status
+    Whole answer out_old out_new notes_old notes_new status
+    ⊎ CutOff answer out_old out_new notes_old notes_new status
+    ⊎ Nothing out_old out_new notes_old notes_new status
 
 -- The answer that is due. Where the desk tells its files it is theirs, or, where its faults rose, it may be the read
--- fault. Of every desk it is an answer that has bytes on out only where it is done.
-pub record Due (held : Option Files) (rose : Type 0) (of_files : Files → Answer) (answer : Answer) : Type 0 where
+-- fault. Of every desk it is an answer that has bytes on out only where it is done, and whose status is not that of a put
+-- that failed.
+pub record Due (held : Option Files) (rose : Type 0) (Of : Files → Answer → Type 0) (answer : Answer) : Type 0 where
   pub silent : IsSilent answer
-  pub told : (files : Files) → held ≡ Some files → (answer ≡ of_files files) ⊎ (rose × (answer ≡ read_fault))
+  pub proper : answer.status ≡ WriteFault → ⊥
+  pub told : (files : Files) → held ≡ Some files → Of files answer ⊎ (rose × (answer ≡ read_fault))
 
--- What a call answers.
-pub record Answers (held : Option Files) (rose : Type 0) (of_files : Files → Answer) (out_old out_new notes_old notes_new : Option (List ℕ)) (status : Status) : Type 0 where
+-- An answer that is due, and what is left of it on the sinks.
+pub record Given (held : Option Files) (rose : Type 0) (Of : Files → Answer → Type 0)
+    (out_old out_new notes_old notes_new : Option (List ℕ)) (status : Status) : Type 0 where
   pub answer : Answer
-  pub due : Due held rose of_files answer
-  pub ends : Ends answer out_old out_new notes_old notes_new status
+  pub due : Due held rose Of answer
+  pub ends : Whole answer out_old out_new notes_old notes_new status ⊎ CutOff answer out_old out_new notes_old notes_new status
+
+-- What a call answers: an answer that is due, or nothing, where memory ran out.
+abbrev pub Answers : Option Files → Type 0 → (Files → Answer → Type 0)
+    → (out_old out_new notes_old notes_new : Option (List ℕ)) → Status → Type 0
+Answers held rose Of out_old out_new notes_old notes_new status =
+    Given held rose Of out_old out_new notes_old notes_new status ⊎ Nothing out_old out_new notes_old notes_new status

@@ -1,7 +1,7 @@
 // The words of the command line.
 ghost use Rattle.std.specs.Prelude.{◌≡◌, map};
 ghost use Rattle.std.specs.String.{string_bytes};
-ghost use Rattle.command_line.specs.Answer.{form_of};
+ghost use Rattle.command_line.specs.Table.{form_of};
 ghost use Rattle.command_line.specs.Forms.{form_seen};
 
 /// The forms that make a text of one file.

@@ -2,13 +2,16 @@
 #![tactic(auto)]
 
 mod asked;
+mod draft;
 mod drawn;
 mod invocation;
+mod laws;
 mod note;
 mod pipeline;
 mod run;
 mod stage;
 mod status;
 
+pub use laws::answers_are_unique;
 pub use run::{gclc_run, latex_run, show_run, svg_run, system_run};
 pub use status::{Status, exit_code};

@@ -3,7 +3,7 @@ ghost use Rattle.std.specs.Prelude.{◌≡◌, ◌≤◌, ◌⊎◌, List, ℕ, 
 ghost use Rattle.std.specs.String.{string_bytes};
 ghost use Rattle.desk_io.specs.Causes.{Rose};
 ghost use Rattle.desk_io.specs.Files.{Lacks};
-ghost use Rattle.command_line.specs.Answer.{answer_of, form_of, text_form};
+ghost use Rattle.command_line.specs.Table.{IsAnswer, TextOf, form_of};
 ghost use Rattle.command_line.specs.Command.{Command};
 ghost use Rattle.command_line.specs.Contract.{IsRun, IsTextRun, IsQuiet, lent, views};
 ghost use Rattle.command_line.specs.Pipeline.{svg_of, latex_of, system_of, show_of};
@@ -29,7 +29,7 @@ fn file_answered<C: TextCommand, K: Desk, S: Sink, N: Sink>(
     notes: &mut N,
 ) -> Status
     ensures answered { Answers (K.held desk.old) (Rose (K.faults desk.old) (K.faults desk.new))
-        (answer_of (Some (text_form C.made name.now)))
+        (IsAnswer (Some (TextOf C.made name.now)))
         (S.written out.old) (S.written out.new) (N.written notes.old) (N.written notes.new) result }
     ensures read_fault { result ≡ Status.ReadFault
         → Rose (K.faults desk.old) (K.faults desk.new) ⊎ Lacks (K.held desk.old) name.now }
@@ -58,7 +58,7 @@ pub fn file_run<C: TextCommand, K: Desk, S: Sink, N: Sink>(
 ) -> Status
     ensures run { IsRun (views K.held K.faults S.written S.faults N.written N.faults)
         (lent desk.old out.old notes.old) (lent desk.new out.new notes.new)
-        (Some (text_form C.made name.now)) result }
+        (Some (TextOf C.made name.now)) result }
     ensures text { IsTextRun (lent desk.old out.old notes.old) (lent desk.new out.new notes.new) result }
 {
     file_answered::<C, K, S, N>(alloc, name, desk, out, notes)
@@ -74,7 +74,7 @@ pub fn svg_run<K: Desk, S: Sink, N: Sink>(
 ) -> Status
     ensures run { IsRun (views K.held K.faults S.written S.faults N.written N.faults)
         (lent desk.old out.old notes.old) (lent desk.new out.new notes.new)
-        (Some (text_form svg_of name.now)) result }
+        (Some (TextOf svg_of name.now)) result }
     ensures text { IsTextRun (lent desk.old out.old notes.old) (lent desk.new out.new notes.new) result }
 {
     file_run::<SvgCommand, K, S, N>(alloc, name, desk, out, notes)
@@ -90,7 +90,7 @@ pub fn latex_run<K: Desk, S: Sink, N: Sink>(
 ) -> Status
     ensures run { IsRun (views K.held K.faults S.written S.faults N.written N.faults)
         (lent desk.old out.old notes.old) (lent desk.new out.new notes.new)
-        (Some (text_form latex_of name.now)) result }
+        (Some (TextOf latex_of name.now)) result }
     ensures text { IsTextRun (lent desk.old out.old notes.old) (lent desk.new out.new notes.new) result }
 {
     file_run::<LatexCommand, K, S, N>(alloc, name, desk, out, notes)
@@ -106,7 +106,7 @@ pub fn system_run<K: Desk, S: Sink, N: Sink>(
 ) -> Status
     ensures run { IsRun (views K.held K.faults S.written S.faults N.written N.faults)
         (lent desk.old out.old notes.old) (lent desk.new out.new notes.new)
-        (Some (text_form system_of name.now)) result }
+        (Some (TextOf system_of name.now)) result }
     ensures text { IsTextRun (lent desk.old out.old notes.old) (lent desk.new out.new notes.new) result }
 {
     file_run::<SystemCommand, K, S, N>(alloc, name, desk, out, notes)
@@ -122,7 +122,7 @@ pub fn show_run<K: Desk, S: Sink, N: Sink>(
 ) -> Status
     ensures run { IsRun (views K.held K.faults S.written S.faults N.written N.faults)
         (lent desk.old out.old notes.old) (lent desk.new out.new notes.new)
-        (Some (text_form show_of name.now)) result }
+        (Some (TextOf show_of name.now)) result }
     ensures text { IsTextRun (lent desk.old out.old notes.old) (lent desk.new out.new notes.new) result }
 {
     file_run::<ShowCommand, K, S, N>(alloc, name, desk, out, notes)
@@ -140,7 +140,7 @@ pub fn gclc_run<K: Desk, S: Sink, N: Sink>(
         (lent desk.old out.old notes.old) (lent desk.new out.new notes.new)
         (form_of (map string_bytes words.now)) result }
     ensures text { (command : Command) (name : List ℕ)
-        → form_of (map string_bytes words.now) ≡ Some (text_form command name)
+        → form_of (map string_bytes words.now) ≡ Some (TextOf command name)
         → IsTextRun (lent desk.old out.old notes.old) (lent desk.new out.new notes.new) result }
 {
     match read_command(words) {

@@ -1,13 +1,16 @@
 // The stages that the commands share: what is said on notes, reading a file, and putting a text.
 ghost use Rattle.std.specs.Prelude.{IfOk, IfErr, OnOk, IsErrOf, vec_len, ◌≡◌, ◌≢◌, ◌≤◌, ◌⊎◌, List, ℕ, Option, Result, Ok, Err, [], length};
+ghost use Rattle.std.specs.List.{flat_map};
+ghost use Rattle.std.specs.Io.KnownBytes.{append_known};
 ghost use Rattle.desk_io.specs.Bytes.{Puts, Writes};
 ghost use Rattle.desk_io.specs.Causes.{HasCause, Rose};
-ghost use Rattle.desk_io.specs.Files.{Files, Holds, Lacks, file_of};
+ghost use Rattle.desk_io.specs.Files.{Holds, Lacks, file_of};
 ghost use Rattle.gcl_reader.specs.Grammar.{Gives};
 ghost use Rattle.gcl_reader.specs.declared.refusal.Refusal.{Refusal};
-ghost use Rattle.command_line.specs.Answer.{Answer, only_notes, of_file, answer_from};
+ghost use Rattle.command_line.specs.Answer.{Answer, only_notes, refused, text_answer, answer_from};
+ghost use Rattle.command_line.specs.Table.{OfFileAlone};
 ghost use Rattle.command_line.specs.Command.{Command};
-ghost use Rattle.command_line.specs.Run.{Ends, Answers, IsSilent};
+ghost use Rattle.command_line.specs.Run.{Ends, Answers};
 ghost use Rattle.command_line.specs.Contract.{IsQuiet};
 ghost use Rattle.command_line.specs.Statuses.{IsReadingFault, IsWritingStatus};
 
@@ -55,9 +58,37 @@ pub fn say<N: Sink>(line: &[u8], status: Status, notes: &mut N) -> Status
     }
 }
 
+// Puts each line to notes.
+fn put_each<N: Sink>(lines: &[Vec<u8>], notes: &mut N) -> Result<(), Failed>
+    ensures bytes { Puts (N.written notes.old) (N.written notes.new) result
+        (flat_map (λ line. line.items) lines.now) }
+    ensures cause { HasCause (N.faults notes.old) (N.faults notes.new) result }
+{
+    for line in lines {
+        notes.put(line)?;
+    }
+    Ok(())
+}
+
+/// Says a line for each result, behind a text that was put.
+pub fn say_each<N: Sink>(lines: &[Vec<u8>], status: Status, notes: &mut N) -> Status
+    ensures status { (result ≡ status) ⊎ (result ≡ Status.WriteFault) }
+    ensures ends { (answer : Answer) (old new : Option (List ℕ)) → answer.status ≡ status
+        → answer.notes ≡ flat_map (λ line. line.items) lines.now → new ≡ append_known old answer.out
+        → Ends answer old new (N.written notes.old) (N.written notes.new) result }
+    ensures write_fault { result ≡ Status.WriteFault → status ≢ Status.WriteFault
+        → Rose (N.faults notes.old) (N.faults notes.new) }
+    ensures later { N.faults notes.old ≤ N.faults notes.new }
+{
+    match put_each(lines, notes) {
+        Ok(()) => status,
+        Err(_) => Status::WriteFault,
+    }
+}
+
 /// Says why a file is refused.
 pub fn refuse<N: Sink>(alloc: Global, bytes: &[u8], refusal: Refusal, notes: &mut N) -> Status
-    ensures ends { (out : Option (List ℕ)) → Ends (answer_from bytes.now (Err refusal)) out out
+    ensures ends { (out : Option (List ℕ)) → Ends (refused bytes.now refusal) out out
         (N.written notes.old) (N.written notes.new) result }
     ensures status { (result ≡ Status.Refused) ⊎ (result ≡ Status.WriteFault) ⊎ (result ≡ Status.OutOfMemory) }
     ensures write_fault { result ≡ Status.WriteFault → Rose (N.faults notes.old) (N.faults notes.new) }
@@ -83,10 +114,9 @@ pub fn fetch<K: Desk, N: Sink>(
     ensures fits { IfOk result (λ bytes. vec_len bytes ≤ most) }
     ensures absent { Lacks (K.held desk.old) name.now → OnOk result ⊥ }
     ensures untouched { OnOk result (notes.new ≡ notes.old) }
-    ensures over { IfErr result (λ status. (next : Files → List ℕ → Answer) (out : Option (List ℕ))
-        → ((files : Files) (bytes : List ℕ) → IsSilent (next files bytes))
+    ensures over { IfErr result (λ status. (out : Option (List ℕ))
         → Answers (K.held desk.old) (Rose (K.faults desk.old) (K.faults desk.new))
-        (λ files. of_file most (file_of files name.now) (next files))
+        (λ files a. OfFileAlone most (file_of files name.now) a)
         out out (N.written notes.old) (N.written notes.new) status) }
     ensures fault { IfErr result IsReadingFault }
     ensures unsaid { IsErrOf result Status.OutOfMemory → notes.new ≡ notes.old }
@@ -129,7 +159,7 @@ pub fn put_text<C: TextCommand, S: Sink>(
     prepared: &C::Prepared,
     out: &mut S,
 ) -> Status
-    ensures ends { (bytes : List ℕ) (notes : Option (List ℕ)) → Ends (answer_from bytes (Ok (C.text prepared.now)))
+    ensures ends { (notes : Option (List ℕ)) → Ends (text_answer (C.text prepared.now))
         (S.written out.old) (S.written out.new) notes notes result }
     ensures status { (result ≡ Status.Done) ⊎ (result ≡ Status.WriteFault) ⊎ (result ≡ Status.OutOfMemory) }
     ensures write_fault { result ≡ Status.WriteFault → Rose (S.faults out.old) (S.faults out.new) }
@@ -153,7 +183,7 @@ pub fn put_file<C: TextCommand, S: Sink, N: Sink>(
     notes: &mut N,
 ) -> Status
     requires { length bytes.now ≤ MOST_BYTES }
-    ensures ends { Ends (answer_from bytes.now (C.made bytes.now))
+    ensures ends { Ends (answer_from text_answer bytes.now (C.made bytes.now))
         (S.written out.old) (S.written out.new) (N.written notes.old) (N.written notes.new) result }
     ensures write_fault { result ≡ Status.WriteFault
         → Rose (S.faults out.old) (S.faults out.new) ⊎ Rose (N.faults notes.old) (N.faults notes.new) }

@@ -28,9 +28,10 @@ use Rattle.proof_log.specs.declared.line.LogLine.TheVariants as line
 use Rattle.proof_log.specs.declared.log.Proof.{Proof}
 use Rattle.proof_log.specs.Lines.{step_line, status_line, list_lines, outcome_lines, work_lines, piece_lines, proof_lines, proofs_lines, log_lines, PiecesWritten, LogWritten}
 use Rattle.log_checker.specs.Fitting.{Inside, At, listed, where_fits, in_piece, read, end_of, Part, Opening, Within, Between, State, begin, behind, node_settled, verdict_settled, same_verdict, inside_row, is_own_part, by_part, after, fitted}
-use Rattle.log_checker.specs.Accepted.{with_ending, IsAcceptedProof, AreAccepted, IsAccepted}
+use Rattle.proof_log.specs.Accepted.{IsAcceptedProof, AreAccepted, IsAccepted}
+use Rattle.log_checker.specs.Accepted.{with_ending}
 use Rattle.poly_model.specs.Equality.{same-is, same-self}
-use Rattle.assurance.proofs.Same.{same_path-is, same_list-is, same_path-self}
+use Rattle.proof_steps.proofs.Following.{same_path-is, same_list-is, same_path-self}
 use Rattle.log_checker.proofs.Inside.{piece_read, piece_written}
 use Rattle.log_checker.proofs.Tally.{tally_tells}
 
@@ -388,7 +389,7 @@ unfolding fitted after
 log_goes version log a = proofs-go (st version (MOST_FUEL / length log) [] [] Between [] no_tally) 1 log (accepted-written version (MOST_FUEL / length log) log a) a
 
 -- what fits is followed
-pub follows-again : (version : ℕ) (cons : List Polynomial) (n : Node) (p : Piece) (ms : List Node) (f : Rattle.assurance.proofs.Follow.Fits version cons n p ms) → follow version cons n p ≡ Some ms
+pub follows-again : (version : ℕ) (cons : List Polynomial) (n : Node) (p : Piece) (ms : List Node) (f : Rattle.proof_steps.proofs.Following.Fits version cons n p ms) → follow version cons n p ≡ Some ms
 follows-again version cons n p ms f =
     ap (follow_at version cons n p) f.steps
     ∙ ap (λ b. if b then Some (children version f.end p.outcome) else None) (and_from (same_path p.path n.path) _ (ap (λ a. same_path a n.path) f.path ∙ same_path-self n.path) f.outcome)

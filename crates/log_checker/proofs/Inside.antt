@@ -27,7 +27,7 @@ use Rattle.proof_log.specs.Lines.{step_line, status_line, list_lines, outcome_li
 use Rattle.log_checker.specs.Accepted.{with_ending, EndsSo}
 use Rattle.log_checker.specs.Fitting.{Work, At, Chaining, Ended, Inside, listed, where_fits, step_row, chain_row, proved_row, remainder_row, unreduced_row, in_piece, read, end_of}
 use Rattle.poly_model.specs.Equality.{same-is, same-self}
-use Rattle.assurance.proofs.Follow.{fits}
+use Rattle.proof_steps.proofs.Following.{fits}
 
 -- ---- reading on
 abbrev pub read_from : ℕ → List Polynomial → Option Inside → List LogLine → Option Inside

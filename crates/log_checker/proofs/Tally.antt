@@ -1,11 +1,11 @@
 -- The tally of the pieces of a tree tells the tree's verdict.
-use Rattle.std.proofs.Common.{◌≡◌, ℕ, ◌<◌, ◌≤◌, zero, suc, List, [], ◌∷◌, ◌++◌, length, map, replicate, get_or, refl, sym, ◌∙◌, ap, subst, arith, Bool, true, false, cond, ◌&&◌, ◌||◌, not, inl, inr, ◌⊎◌, append_assoc}
+use Rattle.std.proofs.Common.{◌≡◌, ℕ, ◌<◌, ◌≤◌, zero, suc, List, [], ◌∷◌, ◌++◌, length, map, replicate, get_or, refl, sym, ◌∙◌, ap, subst, arith, Bool, true, false, cond, ◌&&◌, not, inl, inr, ◌⊎◌}
 use Rattle.std.specs.Prelude.{is_none, unwrap_or, Option, Some, None, filter, find, if◌then◌else◌}
 use Rattle.std.proofs.lemmas.Bool.{and_parts, and_from, not_from_false}
 use Rattle.std.proofs.lemmas.List.{append-nil}
 use Rattle.poly_model.specs.Polynomial.{Polynomial}
 use Rattle.proof_steps.specs.Numbers.{item, replaced}
-use Rattle.poly_model.specs.Reduction.{same, has_polynomial, primitive_initial, primitive_tail}
+use Rattle.poly_model.specs.Reduction.{primitive_initial, primitive_tail}
 use Rattle.proof_steps.specs.Rules.{plus_child, minus_child, size_of}
 use Rattle.proof_steps.specs.Trees.{same_path, children, are_trees, root_of, is_tree_of}
 use Rattle.proof_steps.specs.declared.piece.Node.{Node}
@@ -14,79 +14,13 @@ use Rattle.proof_steps.specs.declared.problem.Problem.{Problem}
 use Rattle.proof_steps.specs.declared.piece.LeafStatus.TheVariants as status
 use Rattle.proof_steps.specs.declared.piece.Outcome.{Outcome}
 use Rattle.proof_steps.specs.declared.piece.Outcome.TheVariants as outcome
-use Rattle.verdicts.specs.Verdicts.{has_minus, plus_part, gain_of, is_leaf, gain_in, gain_at, generic_leaf, is_unproved, without_repeats, conditions, verdict_by, verdict_of}
+use Rattle.verdicts.specs.Verdicts.{has_minus, plus_part, gain_of, is_leaf, gain_in, gain_at, generic_leaf, is_unproved, conditions, verdict_by, verdict_of}
 use Rattle.verdicts.specs.Tallies.{Ending, Parts, Empty, Proves, Remains, Stops, ending_of, leaves_some, Tally, no_tally, added, tally_after, tally_of, verdict_at, verdict_told}
+use Rattle.verdicts.proofs.Repeats.{added_all, added-repeats}
 use Rattle.verdicts.specs.declared.verdict.Verdict.{Verdict}
 use Rattle.verdicts.specs.declared.verdict.Verdict.TheVariants as verdict
-use Rattle.poly_model.specs.Equality.{same-is}
-use Rattle.assurance.proofs.Same.{same_path-self}
-use Rattle.assurance.proofs.Follow.{Fits, end-path, by_first}
+use Rattle.proof_steps.proofs.Following.{same_path-self, Fits, end-path, by_first}
 use Rattle.assurance.proofs.Paths.{lead, minus-append, plus-append, plus_part-is, replicate-length, replicate-last, all_plus, Below, below-more}
-
--- ---- repeats are dropped one by one
-abbrev added_all : List Polynomial → List Polynomial → List Polynomial
-added_all cs [] = cs
-added_all cs (x ∷ xs) = added_all (added cs x) xs
-
-filter-inside : (F G : Polynomial → Bool) (W : List Polynomial) → ((q : Polynomial) → G q ≡ false → F q ≡ false) → filter F (filter G W) ≡ filter F W
-filter-inside F G [] h = refl
-filter-inside F G (q ∷ W) h =
-    elim (G q) as (λ b. G q ≡ b → filter F (cond b (q ∷ filter G W) (filter G W)) ≡ cond (F q) (q ∷ filter F W) (filter F W)) [
-      | true ↦ λ e. ap (λ l. cond (F q) (q ∷ l) l) (filter-inside F G W h)
-      | false ↦ λ e. filter-inside F G W h ∙ ap (λ b. cond b (q ∷ filter F W) (filter F W)) (sym (h q e))
-    ] refl
-
-filter-both : (H F G : Polynomial → Bool) (W : List Polynomial) → ((q : Polynomial) → H q ≡ (G q && F q)) → filter H W ≡ filter F (filter G W)
-filter-both H F G [] h = refl
-filter-both H F G (q ∷ W) h =
-    ap (λ b. cond b (q ∷ filter H W) (filter H W)) (h q)
-    ∙ elim (G q) as (λ b. cond (b && F q) (q ∷ filter H W) (filter H W) ≡ filter F (cond b (q ∷ filter G W) (filter G W))) [
-      | true ↦ ap (λ l. cond (F q) (q ∷ l) l) (filter-both H F G W h)
-      | false ↦ filter-both H F G W h
-    ]
-
-pub has-append : (cs : List Polynomial) (x q : Polynomial) → has_polynomial (cs ++ x ∷ []) q ≡ (has_polynomial cs q || same q x)
-has-append [] x q = elim (same q x) as (λ b. (b || false) ≡ b) [ true ↦ refl | false ↦ refl ]
-has-append (c ∷ cs) x q = elim (same q c) as (λ b. (b || has_polynomial (cs ++ x ∷ []) q) ≡ ((b || has_polynomial cs q) || same q x)) [ true ↦ refl | false ↦ has-append cs x q ]
-
-unlike : (a b : Bool) → not (a || b) ≡ (not b && not a)
-unlike true true = refl
-unlike true false = refl
-unlike false true = refl
-unlike false false = refl
-
-negated : (b : Bool) → not b ≡ false → b ≡ true
-negated true e = refl
-negated false e = cc
-
-added-is : (xs cs : List Polynomial) → added_all cs xs ≡ cs ++ filter (λ q. not (has_polynomial cs q)) (without_repeats xs)
-added-is [] cs = sym (append-nil cs)
-added-is (x ∷ xs) cs = by (has_polynomial cs x) refl (added-is xs cs) (added-is xs (cs ++ x ∷ []))
-  where
-    F : Polynomial → Bool
-    F q = not (has_polynomial cs q)
-
-    G : Polynomial → Bool
-    G q = not (same q x)
-
-    by : (b : Bool) → has_polynomial cs x ≡ b
-        → added_all cs xs ≡ cs ++ filter F (without_repeats xs)
-        → added_all (cs ++ x ∷ []) xs ≡ (cs ++ x ∷ []) ++ filter (λ q. not (has_polynomial (cs ++ x ∷ []) q)) (without_repeats xs)
-        → added_all (if b then cs else cs ++ x ∷ []) xs ≡ cs ++ cond (not (has_polynomial cs x)) (x ∷ filter F (filter G (without_repeats xs))) (filter F (filter G (without_repeats xs)))
-    by true e here more =
-        here ∙ ap (λ l. cs ++ l) (sym (filter-inside F G (without_repeats xs) (λ q g. ap not (ap (has_polynomial cs) (same-is q x (negated (same q x) g)) ∙ e)))
-        ∙ ap (λ b. cond (not b) (x ∷ filter F (filter G (without_repeats xs))) (filter F (filter G (without_repeats xs)))) (sym e))
-    by false e here more =
-        more ∙ append_assoc cs (x ∷ []) (filter (λ q. not (has_polynomial (cs ++ x ∷ []) q)) (without_repeats xs))
-        ∙ ap (λ l. cs ++ (x ∷ l)) (filter-both (λ q. not (has_polynomial (cs ++ x ∷ []) q)) F G (without_repeats xs) (λ q. ap not (has-append cs x q) ∙ unlike (has_polynomial cs q) (same q x)))
-        ∙ ap (λ b. cs ++ cond (not b) (x ∷ filter F (filter G (without_repeats xs))) (filter F (filter G (without_repeats xs)))) (sym e)
-
-all-kept : (W : List Polynomial) → filter (λ q. true) W ≡ W
-all-kept [] = refl
-all-kept (q ∷ W) = ap (λ l. q ∷ l) (all-kept W)
-
-added-repeats : (xs : List Polynomial) → added_all [] xs ≡ without_repeats xs
-added-repeats xs = added-is xs [] ∙ all-kept (without_repeats xs)
 
 -- ---- what the tally does at one piece
 -- the conditions that the unproved leaves off the generic branch add, where g tells what was gained at a path

@@ -1,32 +1,16 @@
--- Accepted logs.
-use Rattle.std.specs.Prelude.{◌≡◌, ◌↔◌, ℕ, ◌/◌, List, [], ◌∷◌, length, IsTrue, Option, Some, None}
-use Rattle.std.specs.List.{list_all}
+-- That the lines of accepted logs fit.
+use Rattle.std.specs.Prelude.{◌≡◌, ◌↔◌, ℕ, List, IsTrue, Option, Some, None}
 use Rattle.poly_model.specs.Polynomial.{Polynomial}
-use Rattle.poly_model.specs.declared.limits.TheConstants.{MOST_FUEL}
 use Rattle.proof_steps.specs.Trees.{same_path, follow, is_tree_of}
 use Rattle.proof_steps.specs.declared.piece.Node.{Node}
 use Rattle.proof_steps.specs.declared.piece.Piece.{Piece}
 use Rattle.proof_steps.specs.declared.problem.Problem.{Problem}
 use Rattle.verdicts.specs.Verdicts.{verdict_of}
 use Rattle.verdicts.specs.Tallies.{Ending, ending_of, no_tally, tally_of, verdict_told}
+use Rattle.proof_log.specs.Accepted.{IsAccepted}
 use Rattle.proof_log.specs.declared.log.Proof.{Proof}
 use Rattle.proof_log.specs.Lines.{work_lines, log_lines, PieceWritten, LogWritten}
-use Rattle.log_checker.specs.Fitting.{At, listed, read, end_of, is_own_part, State, begin, fitted}
-
--- A proof by rules of a version, with so much fuel.
-pub record IsAcceptedProof (version fuel : ℕ) (p : Proof) : Type 0 where
-  pub hyps : IsTrue (list_all is_own_part p.problem.hyps)
-  pub cons : IsTrue (list_all is_own_part p.problem.cons)
-  pub tree : IsTrue (is_tree_of version p.problem fuel p.tree.pieces)
-  pub verdict : p.verdict ≡ verdict_of p.tree.pieces
-
-unfoldable pub AreAccepted : (version fuel : ℕ) → List Proof → Type 0
-AreAccepted version fuel [] = Unit {0}
-AreAccepted version fuel (p ∷ ps) = IsAcceptedProof version fuel p × AreAccepted version fuel ps
-
--- An accepted log: each proof has an equal share of the fuel.
-abbrev pub IsAccepted : (version : ℕ) → List Proof → Type 0
-IsAccepted version log = AreAccepted version (MOST_FUEL / length log) log
+use Rattle.log_checker.specs.Fitting.{At, listed, read, end_of, State, begin, fitted}
 
 -- The lines behind a piece's first end in what follows the piece at a node; nothing where it doesn't fit there.
 abbrev pub with_ending : Ending → Option (List Node) → Option (List Node × Ending)

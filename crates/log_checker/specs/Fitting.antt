@@ -1,11 +1,11 @@
 -- When a line fits what stands before it: a row for each kind of line.
 use Rattle.std.specs.Prelude.{ℕ, ◌+◌, ◌-◌, ◌/◌, ◌==◌, ◌&&◌, List, [], ◌∷◌, ◌++◌, length, Bool, true, false, nat_le, Option, Some, None}
 use Rattle.poly_model.specs.Polynomial.{Polynomial}
-use Rattle.poly_model.specs.Content.{primitive_part}
 use Rattle.poly_model.specs.declared.limits.TheConstants.{MOST_FUEL}
 use Rattle.poly_model.specs.Reduction.{same, is_nonzero_constant, primitive_initial}
 use Rattle.proof_steps.specs.Numbers.{item, has}
 use Rattle.proof_steps.specs.Reasons.{same_reason}
+pub use Rattle.proof_steps.specs.Stated.{is_own_part}
 use Rattle.proof_steps.specs.Rules.{is_valid, is_triangular, size_of, made, reason_of, stepped}
 use Rattle.proof_steps.specs.Chain as chain
 use Rattle.proof_steps.specs.Chain.{Due, due_of, chain_reason, is_step}
@@ -243,10 +243,6 @@ abbrev pub inside_row : State → LogLine → Part → Option State
 inside_row s l (Within path i) = elim (in_piece s.version s.cons i l) [ None ↦ None | Some j ↦ Some (record s { part = Within path j }) ]
 inside_row s l Opening = None
 inside_row s l Between = None
-
--- A polynomial is its own primitive part.
-abbrev pub is_own_part : Polynomial → Bool
-is_own_part p = same p (primitive_part p)
 
 -- A line by the part of the log that it stands in.
 abbrev pub by_part : State → LogLine → Part → Option State

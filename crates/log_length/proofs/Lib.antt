@@ -1,3 +1,3 @@
 mod Pieces
 mod Under
-mod Whole
+pub mod Whole

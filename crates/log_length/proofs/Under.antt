@@ -14,10 +14,10 @@ use Rattle.proof_steps.specs.declared.piece.Outcome.TheVariants as outcome
 use Rattle.proof_steps.specs.declared.piece.Piece.{Piece}
 use Rattle.proof_steps.specs.declared.problem.Problem.{Problem}
 use Rattle.tree_laws.specs.Costs.{outcome_cost, pieces_cost}
-use Rattle.tree_laws.proofs.Following.{fits, first-of}
+use Rattle.proof_steps.proofs.Following.{fits, first-of}
 use Rattle.verdicts.specs.Verdicts.{has_minus, plus_part}
 use Rattle.verdicts.specs.Tallies.{Ending, Parts, Empty, Proves, Remains, Stops, ending_of, leaves_some, Tally, no_tally, added, leaf_tally, tally_after, tally_of}
-use Rattle.log_checker.proofs.Tally.{has-append}
+use Rattle.verdicts.proofs.Repeats.{has-append}
 
 -- ---- the sizes of those of a list that are in another
 abbrev counted : Bool → Polynomial → ℕ

@@ -13,7 +13,7 @@ use Rattle.proof_log.specs.Lengths.{term_most, lines_all}
 use Rattle.proof_log.specs.Lines.{piece_lines, log_lines}
 use Rattle.proof_log.specs.declared.limits.TheConstants.{MOST_PROOFS}
 use Rattle.proof_log.specs.declared.log.Proof.{Proof}
-use Rattle.log_checker.specs.Accepted.{IsAccepted}
+use Rattle.proof_log.specs.Accepted.{IsAccepted}
 
 -- The hypotheses and the conclusions of a problem have at most 700 terms, with one for each of them.
 abbrev pub HasFewTerms : Proof → Type 0

@@ -5,3 +5,4 @@ pub mod Entries
 pub mod Unique
 pub mod Progress
 pub mod Parts
+pub mod Plain

@@ -5,7 +5,8 @@ use Rattle.std.specs.Prelude.{decimal}
 use Rattle.std.proofs.lemmas.Fmt.{decimal_is_IsNumeral_wide, decimal_digit, decimal_step_wide, decimal_by_steps_wide}
 use Rattle.std.proofs.lemmas.Str.Parse.{IsNumeralModel, numerals_by_fold}
 use Rattle.std.proofs.lemmas.Bool.Decides.{nat_tests}
-use Rattle.poly_text.specs.Reading.{is_digit, number_from, begins_number, number_at}
+use Rattle.poly_text.specs.Bytes.{is_digit}
+use Rattle.poly_text.specs.Reading.{number_from, begins_number, number_at}
 
 -- ---- a number that is cut at the greatest of its type
 abbrev pub cap : ℕ

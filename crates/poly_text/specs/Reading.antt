@@ -5,12 +5,8 @@ use Rattle.poly_model.specs.Content.{signed_by}
 use Rattle.poly_model.specs.declared.vars.VarName.{VarName}
 use Rattle.poly_model.specs.declared.limits.TheConstants.{MOST_VARIABLES, MOST_DEGREE, MOST_SIZE}
 use Rattle.poly_model.specs.Names.{number}
-use Rattle.poly_text.specs.Bytes.{digit_zero, digit_nine, blank, star, plus, minus, caret}
+use Rattle.poly_text.specs.Bytes.{digit_zero, is_digit, blank, star, plus, minus, caret}
 use Rattle.poly_text.specs.Text.{letter, is_left_out}
-
--- A decimal digit.
-abbrev pub is_digit : ℕ → Bool
-is_digit b = nat_le digit_zero b && nat_le b digit_nine
 
 -- The number that digits spell behind a number.
 abbrev pub number_from : ℕ → List ℕ → ℕ × List ℕ

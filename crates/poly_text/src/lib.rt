@@ -9,7 +9,8 @@ mod reading;
 mod terms;
 
 pub use fault::PolyFault;
-pub use laws::texts_are_unique;
+pub use laws::{texts_are_plain, texts_are_unique};
+pub use pieces::read_number;
 pub use printing::{print_poly, write_variable};
 pub use reading::read_poly;
 

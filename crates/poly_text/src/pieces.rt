@@ -1,6 +1,7 @@
 ghost use Rattle.std.specs.Prelude.{◌≡◌, ◌<◌, ◌≤◌, ◌^◌, ℕ, List, Option, Some, None, MatchOption, IfSome};
 ghost use Rattle.poly_text.specs.Text.{letter};
-ghost use Rattle.poly_text.specs.Reading.{is_digit, number_from, begins_number, number_at, behind, name_at, exponent_at, joint_at, factor_at};
+ghost use Rattle.poly_text.specs.Bytes.{is_digit};
+ghost use Rattle.poly_text.specs.Reading.{number_from, begins_number, number_at, behind, name_at, exponent_at, joint_at, factor_at};
 
 use poly_model::{MOST_DEGREE, VarName};
 
@@ -31,7 +32,7 @@ fn behind(byte: u8, text: &[u8]) -> Option<&[u8]>
     }
 }
 
-/// The number that stands first, if it is spelled as it should be and not too large, and the text behind it.
+/// The decimal number that stands first, without a leading zero and at most `most`, and the text behind it.
 pub fn read_number(most: u128, text: &[u8]) -> Option<(u128, &[u8])>
     requires { most < 2 ^ 127 }
     ensures within { IfSome result (λ read. read.0 ≤ most) }

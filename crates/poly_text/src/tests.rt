@@ -48,6 +48,7 @@ fn spellings_are_kept(rt: HostRuntime) -> Result<(), Fail> {
     for text in rows {
         assert!(rt; is_kept(rt.alloc(), &names, text.as_bytes())?, "at {text}");
     }
+    texts_are_plain();
     texts_are_unique();
     Ok(())
 }

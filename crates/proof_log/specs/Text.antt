@@ -1,5 +1,5 @@
 -- The text of the lines of a log: a row for each kind of line.
-use Rattle.std.specs.Prelude.{ℕ, ◌≤◌, ℤ, List, [], ◌∷◌, ◌++◌, map, length, Bool, true, false, IsTrue, codes, decimal, unsigned_abs}
+use Rattle.std.specs.Prelude.{ℕ, ◌≤◌, List, [], ◌∷◌, ◌++◌, map, length, Bool, true, false, IsTrue, codes, decimal, unsigned_abs}
 use Rattle.std.specs.List.{flat_map}
 use Rattle.poly_model.specs.Polynomial.{Polynomial, is_over}
 use Rattle.poly_model.specs.Standard.{is_standard}
@@ -19,16 +19,12 @@ use Rattle.proof_log.specs.declared.line.LogLine.{LogLine}
 use Rattle.proof_log.specs.declared.line.LogLine.TheVariants as line
 use Rattle.proof_log.specs.declared.line.LineWord.{LineWord}
 use Rattle.proof_log.specs.declared.line.LineWord.TheVariants as word
+pub use Rattle.proof_log.specs.declared.field.Field.{Field}
+pub use Rattle.proof_log.specs.declared.field.Field.TheVariants.{Version, Proofs, Conclusion, Index, Multiplier, Letters, Why}
+pub use Rattle.proof_log.specs.declared.tail.Tail.{Tail}
+pub use Rattle.proof_log.specs.declared.tail.Tail.TheVariants.{Nothing, Poly, Names, Tried, Told}
 
 -- ---- small fields: without a blank, and never empty
-pub data Field : Type 0 where
-  Version : ℕ → Field
-  Proofs : ℕ → Field  -- how many proofs, or which
-  Conclusion : ℕ → Field
-  Index : ℕ → Field  -- of an equation or a condition
-  Multiplier : ℤ → Field
-  Letters : List Bool → Field
-  Why : Reason → Field
 
 abbrev pub letter_text : Bool → ℕ
 letter_text true = 43
@@ -64,20 +60,13 @@ FitsField (Letters path) = length path ≤ MOST_LETTERS
 FitsField (Why r) = Unit {0}
 
 abbrev pub fields_text : List Field → List ℕ
-fields_text [] = []
-fields_text (f ∷ fs) = 32 ∷ (field_text f ++ fields_text fs)
+fields_text = flat_map (λ f. 32 ∷ field_text f)
 
 abbrev pub FitFields : List Field → Type 0
 FitFields [] = Unit {0}
 FitFields (f ∷ fs) = FitsField f × FitFields fs
 
 -- ---- the rest of a line
-pub data Tail : Type 0 where
-  Nothing : Tail
-  Poly : Polynomial → Tail
-  Names : List VarName → Tail
-  Tried : Attempt → Tail
-  Told : Verdict → Tail
 
 abbrev pub FitsPoly : List VarName → Polynomial → Type 0
 FitsPoly names p = IsTrue (is_standard p) × IsTrue (is_over (length names) p)
@@ -98,10 +87,9 @@ attempt_fields (attempt.Red g f) = Index g ∷ Index f ∷ []
 attempt_fields (attempt.Tail f) = Index f ∷ []
 attempt_fields (attempt.Split f) = Index f ∷ []
 
--- Polynomials parted by `; `.
+-- Polynomials, each behind a `; `.
 abbrev pub more_text : List VarName → List Polynomial → List ℕ
-more_text names [] = []
-more_text names (p ∷ ps) = codes "; " ++ (poly_text names p ++ more_text names ps)
+more_text names = flat_map (λ p. codes "; " ++ poly_text names p)
 
 abbrev pub polys_text : List VarName → List Polynomial → List ℕ
 polys_text names [] = []

@@ -1,3 +1,5 @@
+pub mod Stated
 pub mod Word
 pub mod Paths
 pub mod Search
+pub mod Following

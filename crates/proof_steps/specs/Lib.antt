@@ -6,4 +6,6 @@ pub mod Rules
 pub mod Chain
 pub mod Work
 pub mod Trees
+pub mod Stated
 pub mod Leaves
+pub mod Left

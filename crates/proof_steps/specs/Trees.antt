@@ -147,6 +147,6 @@ tree_within (suc k) version cons n =
 abbrev pub tree_at : ℕ → List Polynomial → Node → List Piece
 tree_at version cons n = tree_within n.fuel version cons n
 
--- The tree of a problem; nothing where the fuel is less than the size of the root.
+-- The tree of a problem, where the fuel is at least the size of the root.
 abbrev pub tree_of : ℕ → Problem → ℕ → List Piece
 tree_of version problem fuel = tree_at version problem.cons (root_of problem fuel)

@@ -10,5 +10,5 @@ mod step;
 pub use path::Path;
 pub use piece::{ChainStep, LeafStatus, Node, Outcome, Piece, Tree};
 pub use poly_model::Reason;
-pub use problem::Problem;
+pub use problem::{MOST_STATED_TERMS, Problem};
 pub use step::{Attempt, Step};

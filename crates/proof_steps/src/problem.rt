@@ -1,6 +1,11 @@
 ghost use Rattle.std.specs.Prelude.{IsTrue, ◌↔◌, ◌≡◌};
+ghost use Rattle.std.specs.List.{list_all};
+ghost use Rattle.poly_model.specs.Standard.{is_standard};
 
 use poly_model::{OwnedPoly, Row, Vars};
+
+/// The most terms of a polynomial that a figure states.
+pub const MOST_STATED_TERMS: usize = 12;
 
 /// A problem: over its variables, are the conclusions zero wherever all hypotheses are?
 #[derive(Debug, Drop)]
@@ -42,7 +47,27 @@ fn same_polynomials(a: &[OwnedPoly], b: &[OwnedPoly]) -> bool
     right.is_empty()
 }
 
+// Tells of each polynomial what its type holds.
+fn are_within_limits(polynomials: &[OwnedPoly])
+    ensures { IsTrue (list_all is_standard polynomials.now) }
+{
+    let mut rest = polynomials;
+    while let Some((p, others)) = rest.split_first() {
+        p.terms();
+        rest = others;
+    }
+}
+
 impl Problem {
+    /// The polynomials are within the limits, as their type has it. The call tells so, and does nothing else.
+    pub fn is_within_limits(&self)
+        ensures hyps { IsTrue (list_all is_standard self.now.hyps) }
+        ensures cons { IsTrue (list_all is_standard self.now.cons) }
+    {
+        are_within_limits(self.hyps.as_slice());
+        are_within_limits(self.cons.as_slice());
+    }
+
     /// The two have the same variables, hypotheses and conclusions, in the same order.
     pub fn equals(&self, other: &Problem) -> bool
         ensures { IsTrue result ↔ (self.now ≡ other.now) }

@@ -26,9 +26,9 @@ pub struct Down {
     pub fuel: u32,
 }
 
-/// One step more.
+/// One step more: why it stops, or its multiplier and result, the result as the new rest, and what is left of the fuel.
 #[derive(Debug, Drop)]
-enum Advance {
+pub enum Advance {
     Stopped(Reason),
     Stepped {
         multiplier: i128,
@@ -38,8 +38,9 @@ enum Advance {
     },
 }
 
-/// One step more from a rest, which is given up where the step is made.
-fn step_on<S: TermStore>(
+/// One elementary reduction of a rest by f, paid from the fuel. The rest is given up where the step is made, and stays where
+/// it stops or memory is refused.
+pub fn step_on<S: TermStore>(
     alloc: Global,
     s: &mut S,
     rest: Poly,

@@ -4,5 +4,5 @@
 mod division;
 mod step;
 
-pub use division::{Down, prem};
+pub use division::{Advance, Down, prem, step_on};
 pub use step::red_step;

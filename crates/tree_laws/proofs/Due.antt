@@ -39,7 +39,8 @@ none-at test n i e below = first_from-none test n 1 (suc i) e (omega arith) (ome
 less-trans : (a b c : Polynomial) → is_less a b ≡ true → is_less b c ≡ true → is_less a c ≡ true
 less-trans a b c p q = by (main_degree a) (main_degree b) (main_degree c) (length a) (length b) (length c) p q
   where
-    by : (x y z l m n : ℕ) → (nat_lt x y || (x == y && nat_lt l m)) ≡ true → (nat_lt y z || (y == z && nat_lt m n)) ≡ true → (nat_lt x z || (x == z && nat_lt l n)) ≡ true
+    by : (x y z l m n : ℕ) → (nat_lt x y || (x == y && nat_lt l m)) ≡ true → (nat_lt y z || (y == z && nat_lt m n)) ≡ true
+        → (nat_lt x z || (x == z && nat_lt l n)) ≡ true
     by x y z l m n p q =
         elim (or_cases (nat_lt x y) _ p) [
           | inl a ↦ let xy = ltb-true x y a in
@@ -62,10 +63,13 @@ less-trans a b c p q = by (main_degree a) (main_degree b) (main_degree c) (lengt
         ]
 
 less-self : (a : Polynomial) → is_less a a ≡ false
-less-self a = or_from (nat_lt (main_degree a) (main_degree a)) _ (irreflexive (main_degree a)) (second (main_degree a == main_degree a) (nat_lt (length a) (length a)) (irreflexive (length a)))
+less-self a =
+    or_from (nat_lt (main_degree a) (main_degree a)) _ (irreflexive (main_degree a))
+    (second (main_degree a == main_degree a) (nat_lt (length a) (length a)) (irreflexive (length a)))
   where
     irreflexive : (n : ℕ) → nat_lt n n ≡ false
-    irreflexive n = elim (nat_lt n n) as (λ b. nat_lt n n ≡ b → b ≡ false) [ true ↦ λ e. absurd (let h = ltb-true n n e in omega (arith, h)) | false ↦ λ e. refl ] refl
+    irreflexive n =
+        elim (nat_lt n n) as (λ b. nat_lt n n ≡ b → b ≡ false) [ true ↦ λ e. absurd (let h = ltb-true n n e in omega (arith, h)) | false ↦ λ e. refl ] refl
 
     second : (a b : Bool) → b ≡ false → (a && b) ≡ false
     second true b e = e
@@ -120,7 +124,8 @@ least-there x (p ∷ E) i below c = cases (list_any (λ q. class_of q == x) E) r
         second true b e = e
         second false b e = refl
 
-    keep : (m : Polynomial) (E : List Polynomial) → is_less p m ≡ true → list_all (λ q. not (class_of q == x && is_less q m)) E ≡ true → list_all (λ q. not (class_of q == x && is_less q p)) E ≡ true
+    keep : (m : Polynomial) (E : List Polynomial) → is_less p m ≡ true → list_all (λ q. not (class_of q == x && is_less q m)) E ≡ true
+        → list_all (λ q. not (class_of q == x && is_less q p)) E ≡ true
     keep m [] pm h = refl
     keep m (q ∷ E) pm h =
         let parts = and_parts (not (class_of q == x && is_less q m)) _ h in
@@ -135,8 +140,10 @@ least-there x (p ∷ E) i below c = cases (list_any (λ q. class_of q == x) E) r
         elim (class_of p == x && is_less p (get_or E m.at [])) as (λ b. (class_of p == x && is_less p (get_or E m.at [])) ≡ b → Least x (p ∷ E)) [
           | true ↦ λ t.
               let parts = and_parts (class_of p == x) _ t in
-              record { at = 0; within = omega arith; class = eqb-true _ _ parts.0; least = and_from _ _ (first_is p) (keep (get_or E m.at []) E parts.1 m.least) }
-          | false ↦ λ t. record { at = suc m.at; within = (let w = m.within in omega (arith, w)); class = m.class; least = and_from _ _ (not_from_false _ t) m.least }
+              let least = and_from _ _ (first_is p) (keep (get_or E m.at []) E parts.1 m.least) in
+              record { at = 0; within = omega arith; class = eqb-true _ _ parts.0; least = least }
+          | false ↦ λ t.
+              record { at = suc m.at; within = (let w = m.within in omega (arith, w)); class = m.class; least = and_from _ _ (not_from_false _ t) m.least }
         ] refl
 
 -- ---- a class with one equation
@@ -147,18 +154,21 @@ count-none x (p ∷ E) h =
     let rest = count-none x E (λ i below. h (suc i) (omega arith)) in
     sum_by-cons (λ p. cond (class_of p == x) 1 0) p E ∙ (λ i. first i + rest i)
 
-pub count-one : (x : ℕ) (E : List Polynomial) (f : ℕ) → f < length E → class_of (get_or E f []) ≡ x → ((i : ℕ) → i < length E → class_of (get_or E i []) ≡ x → i ≡ f) → count_by (λ p. class_of p == x) E ≡ 1
+pub count-one : (x : ℕ) (E : List Polynomial) (f : ℕ) → f < length E → class_of (get_or E f []) ≡ x
+    → ((i : ℕ) → i < length E → class_of (get_or E i []) ≡ x → i ≡ f) → count_by (λ p. class_of p == x) E ≡ 1
 count-one x [] f below c h = absurd (omega arith)
 count-one x (p ∷ E) zero below c h =
     let first : ◌≡◌ {A = ℕ} (cond (class_of p == x) 1 0) 1 = ap (λ b. cond b 1 0) (eq-eqb _ _ c) in
     let rest = count-none x E (λ i w q. let e = h (suc i) (omega arith) q in omega (arith, e)) in
     sum_by-cons (λ p. cond (class_of p == x) 1 0) p E ∙ (λ i. first i + rest i)
 count-one x (p ∷ E) (suc f) below c h =
-    let first : ◌≡◌ {A = ℕ} (cond (class_of p == x) 1 0) 0 = ap (λ b. cond b 1 0) (ne_eqb (class_of p) x (λ q. let e = h 0 (omega arith) q in omega (arith, e))) in
+    let apart = ne_eqb (class_of p) x (λ q. let e = h 0 (omega arith) q in omega (arith, e)) in
+    let first : ◌≡◌ {A = ℕ} (cond (class_of p == x) 1 0) 0 = ap (λ b. cond b 1 0) apart in
     let rest = count-one x E f (omega arith) c (λ i w q. let e = h (suc i) (omega arith) q in omega (arith, e)) in
     sum_by-cons (λ p. cond (class_of p == x) 1 0) p E ∙ (λ i. first i + rest i)
 
-pub settled-from : (E N : List Polynomial) (x f : ℕ) → f < length E → class_of (get_or E f []) ≡ x → has_known_initial N (get_or E f []) ≡ true → ((i : ℕ) → i < length E → class_of (get_or E i []) ≡ x → i ≡ f)
+pub settled-from : (E N : List Polynomial) (x f : ℕ) → f < length E → class_of (get_or E f []) ≡ x → has_known_initial N (get_or E f []) ≡ true
+    → ((i : ℕ) → i < length E → class_of (get_or E i []) ≡ x → i ≡ f)
     → is_settled E N x ≡ true
 settled-from E N x f below c known only =
     and_from (count_by (λ p. class_of p == x) E == 1) _ (eq-eqb _ 1 (count-one x E f below c only))
@@ -169,6 +179,16 @@ settled-from E N x f below c known only =
     ] refl))
 
 -- ---- what is due is valid
+-- the equations that are looked for
+abbrev may_drop : ℕ → Node → ℕ → Bool
+may_drop version n i = is_valid version n (attempt.Drop i)
+
+abbrev may_close : Node → ℕ → Bool
+may_close n i = is_nonzero_constant (item n.eqs i)
+
+abbrev may_clash : Node → ℕ → Bool
+may_clash n i = has_polynomial n.nes (item n.eqs i)
+
 pub member-number : (N : List Polynomial) (p : Polynomial) → has_polynomial N p ≡ true → (j : ℕ) × ((j < length N) × (same (get_or N j []) p ≡ true))
 member-number [] p h = absurd (let e : false ≡ true = h in cc)
 member-number (q ∷ N) p h =
@@ -177,11 +197,13 @@ member-number (q ∷ N) p h =
       | inr m ↦ let r = member-number N p m in (suc r.0, ((let w = r.1.0 in omega (arith, w)), r.1.1))
     ]
 
-clash-right : (version : ℕ) (n : Node) (i : ℕ) → has n.eqs i ≡ true → has_polynomial n.nes (item n.eqs i) ≡ true → IsRight version n (work.Clashed i (number_in n.nes (item n.eqs i)))
+clash-right : (version : ℕ) (n : Node) (i : ℕ) → has n.eqs i ≡ true → has_polynomial n.nes (item n.eqs i) ≡ true
+    → IsRight version n (work.Clashed i (number_in n.nes (item n.eqs i)))
 clash-right version n i inside h =
     let p = item n.eqs i in
     let m = member-number n.nes p h in
-    let f = first_from-found (λ j. same (item n.nes j) p) (length n.nes) 1 (suc m.0) (omega arith) (let w = m.1.0 in omega (arith, w)) (ap (λ r. same r p) (item-next n.nes m.0) ∙ m.1.1) in
+    let equal = ap (λ r. same r p) (item-next n.nes m.0) ∙ m.1.1 in
+    let f = first_from-found (λ j. same (item n.nes j) p) (length n.nes) 1 (suc m.0) (omega arith) (let w = m.1.0 in omega (arith, w)) equal in
     let number : number_in n.nes p ≡ f.at = ap (λ r. unwrap_or r 0) f.found in (
       inside,
       ap (has n.nes) number ∙ has-from n.nes f.at f.low f.high,
@@ -195,10 +217,13 @@ pub record Chosen (n : Node) (x : ℕ) : Type 0 where
   pub least : list_all (λ q. not (class_of q == suc x && is_less q (item n.eqs (least n.eqs (suc x))))) n.eqs ≡ true
   pub unsettled : is_settled n.eqs n.nes (suc x) ≡ false
 
-least-from : (E : List Polynomial) (x i : ℕ) → class_of (item E i) ≡ x → list_all (λ q. not (class_of q == x && is_less q (item E i))) E ≡ true → is_least E x i ≡ true
-least-from E x i class least = and_from (class_of (item E i) == x) (list_all (λ q. not (class_of q == x && is_less q (item E i))) E) (eq-eqb (class_of (item E i)) x class) least
+least-from : (E : List Polynomial) (x i : ℕ) → class_of (item E i) ≡ x → list_all (λ q. not (class_of q == x && is_less q (item E i))) E ≡ true
+    → is_least E x i ≡ true
+least-from E x i class least =
+    and_from (class_of (item E i) == x) (list_all (λ q. not (class_of q == x && is_less q (item E i))) E) (eq-eqb (class_of (item E i)) x class) least
 
-least-parts : (E : List Polynomial) (x i : ℕ) → is_least E x i ≡ true → (class_of (item E i) ≡ x) × (list_all (λ q. not (class_of q == x && is_less q (item E i))) E ≡ true)
+least-parts : (E : List Polynomial) (x i : ℕ) → is_least E x i ≡ true
+    → (class_of (item E i) ≡ x) × (list_all (λ q. not (class_of q == x && is_less q (item E i))) E ≡ true)
 least-parts E x i h =
     let a = and_parts (class_of (item E i) == x) (list_all (λ q. not (class_of q == x && is_less q (item E i))) E) h in
     (eqb-true (class_of (item E i)) x a.0, a.1)
@@ -239,18 +264,15 @@ pub record Another (n : Node) (x : ℕ) : Type 0 where
   pub class : class_of (item n.eqs (other n.eqs (suc x) (least n.eqs (suc x)))) ≡ suc x
   pub apart : not (other n.eqs (suc x) (least n.eqs (suc x)) == least n.eqs (suc x)) ≡ true
 
+abbrev is_another : Node → ℕ → ℕ → Bool
+is_another n x g = class_of (item n.eqs g) == suc x && not (g == least n.eqs (suc x))
+
 pub another : (n : Node) (x : ℕ) → Chosen n x → has_known_initial n.nes (item n.eqs (least n.eqs (suc x))) ≡ true → Another n x
-another n x c known = go (first test (length n.eqs)) refl
+another n x c known = go (first (is_another n x) (length n.eqs)) refl
   where
-    f : ℕ
-    f = least n.eqs (suc x)
-
-    test : ℕ → Bool
-    test g = class_of (item n.eqs g) == suc x && not (g == least n.eqs (suc x))
-
-    go : (r : Option ℕ) → first (λ g. class_of (item n.eqs g) == suc x && not (g == least n.eqs (suc x))) (length n.eqs) ≡ r → Another n x
+    go : (r : Option ℕ) → first (is_another n x) (length n.eqs) ≡ r → Another n x
     go (Some g) e =
-        let found = first_from-passes (λ g. class_of (item n.eqs g) == suc x && not (g == least n.eqs (suc x))) (length n.eqs) 1 g e in
+        let found = first_from-passes (is_another n x) (length n.eqs) 1 g e in
         let at : g ≡ found.at = same_some found.found in
         let number : other n.eqs (suc x) (least n.eqs (suc x)) ≡ found.at = ap (λ r. unwrap_or r 0) e ∙ at in
         let parts = and_parts (class_of (item n.eqs found.at) == suc x) _ found.passes in
@@ -267,7 +289,8 @@ another n x c known = go (first test (length n.eqs)) refl
         let high = leb-true (least n.eqs (suc x)) (length n.eqs) (and_parts (nat_lt 0 (least n.eqs (suc x))) _ c.inside).1 in
         absurd (both_ways (is_settled n.eqs n.nes (suc x)) c.unsettled
         (settled-from n.eqs n.nes (suc x) (least n.eqs (suc x) - 1) (omega (arith, low, high)) c.class known (λ i w q.
-        elim (and_cases (class_of (item n.eqs (suc i)) == suc x) (not (suc i == least n.eqs (suc x))) (none-at (λ g. class_of (item n.eqs g) == suc x && not (g == least n.eqs (suc x))) (length n.eqs) i e w)) [
+        elim (and_cases (class_of (item n.eqs (suc i)) == suc x) (not (suc i == least n.eqs (suc x)))
+        (none-at (is_another n x) (length n.eqs) i e w)) [
           | inl a ↦ absurd (both_ways _ a (eq-eqb _ _ (ap class_of (item-next n.eqs i) ∙ q)))
           | inr b ↦ let s = eqb-true (suc i) (least n.eqs (suc x)) (negated _ b) in omega (arith, s)
         ])))
@@ -281,7 +304,8 @@ work-right version n x e =
     let c = chosen n x e in
     go c (has_known_initial n.nes (item n.eqs (least n.eqs (suc x)))) refl (has_polynomial n.eqs (primitive_initial (item n.eqs (least n.eqs (suc x))))) refl
   where
-    reached : (c : Chosen n x) → Another n x → nat_le (main_degree (item n.eqs (least n.eqs (suc x)))) (degree_at (main_place (item n.eqs (least n.eqs (suc x)))) (item n.eqs (other n.eqs (suc x) (least n.eqs (suc x))))) ≡ true
+    reached : (c : Chosen n x) → Another n x
+        → reaches (item n.eqs (other n.eqs (suc x) (least n.eqs (suc x)))) (item n.eqs (least n.eqs (suc x))) ≡ true
     reached c a =
         let g = other n.eqs (suc x) (least n.eqs (suc x)) in
         let F = item n.eqs (least n.eqs (suc x)) in
@@ -299,12 +323,14 @@ work-right version n x e =
         less_false true false p q = refl
         less_false false b p q = absurd (let k : false ≡ true = p in cc)
 
-    go : (c : Chosen n x) → (k : Bool) → has_known_initial n.nes (item n.eqs (least n.eqs (suc x))) ≡ k → (m : Bool) → has_polynomial n.eqs (primitive_initial (item n.eqs (least n.eqs (suc x)))) ≡ m
+    go : (c : Chosen n x) → (k : Bool) → has_known_initial n.nes (item n.eqs (least n.eqs (suc x))) ≡ k → (m : Bool)
+        → has_polynomial n.eqs (primitive_initial (item n.eqs (least n.eqs (suc x)))) ≡ m
         → is_valid version n (work_on n (suc x)) ≡ true
     go c true p m q =
         let f = least n.eqs (suc x) in
         let a = another n x c p in
-        ap (λ b. is_valid version n (if b then attempt.Red (other n.eqs (suc x) f) f else (if has_polynomial n.eqs (primitive_initial (item n.eqs f)) then attempt.Tail f else attempt.Split f))) p
+        let rest = if has_polynomial n.eqs (primitive_initial (item n.eqs f)) then attempt.Tail f else attempt.Split f in
+        ap (λ b. is_valid version n (if b then attempt.Red (other n.eqs (suc x) f) f else rest)) p
         ∙ and_from _ _ (and_from (has n.eqs (other n.eqs (suc x) f)) _ a.inside (and_from (has n.eqs f) _ c.inside a.apart))
         (and_from _ _ (nonconstant (item n.eqs f) x c.class) (and_from _ _ p (reached c a)))
     go c false p true q =
@@ -317,7 +343,7 @@ work-right version n x e =
         ∙ and_from (has n.eqs f) _ c.inside (nonconstant (item n.eqs f) x c.class)
 
 -- no rule is due: the system is triangular
-solved-right : (version : ℕ) (n : Node) → first (λ i. is_valid version n (attempt.Drop i)) (length n.eqs) ≡ None → first (λ i. is_nonzero_constant (item n.eqs i)) (length n.eqs) ≡ None
+solved-right : (version : ℕ) (n : Node) → first (may_drop version n) (length n.eqs) ≡ None → first (may_close n) (length n.eqs) ≡ None
     → unsettled_class n ≡ 0 → is_triangular n.eqs n.nes ≡ true
 solved-right version n no_drop no_close settled =
     all-from (λ p. not (is_constant p) && is_settled n.eqs n.nes (class_of p)) n.eqs (λ i w.
@@ -330,48 +356,59 @@ solved-right version n no_drop no_close settled =
     settles true c n h = refl
     settles false c n h = absurd (n (omega (arith, h)))
 
-    -- no equation is a constant
+    -- no equation is 0, and none is another constant
+    no_zero : (i : ℕ) → i < length n.eqs → is_zero (get_or n.eqs i []) ≡ true → ⊥
+    no_zero i w t =
+        both_ways (is_valid version n (attempt.Drop (suc i))) (none-at (may_drop version n) (length n.eqs) i no_drop w)
+        (and_from (has n.eqs (suc i)) _ (has-from n.eqs (suc i) (omega arith) (omega arith))
+        (or_left (is_zero (item n.eqs (suc i))) _ (ap is_zero (item-next n.eqs i) ∙ t)))
+
+    no_number : (i : ℕ) → i < length n.eqs → is_nonzero_constant (get_or n.eqs i []) ≡ true → ⊥
+    no_number i w t =
+        both_ways (is_nonzero_constant (item n.eqs (suc i))) (none-at (may_close n) (length n.eqs) i no_close w)
+        (ap is_nonzero_constant (item-next n.eqs i) ∙ t)
+
     moves : (i : ℕ) → i < length n.eqs → is_constant (get_or n.eqs i []) ≡ false
     moves i w =
         elim (is_constant (get_or n.eqs i [])) as (λ b. is_constant (get_or n.eqs i []) ≡ b → b ≡ false) [
           | false ↦ λ e. refl
           | true ↦ λ e. elim (int_eq (number_of (get_or n.eqs i [])) (pos 0)) as (λ b. int_eq (number_of (get_or n.eqs i [])) (pos 0) ≡ b → true ≡ false) [
-            | true ↦ λ t. absurd (both_ways (is_valid version n (attempt.Drop (suc i))) (none-at (λ i. is_valid version n (attempt.Drop i)) (length n.eqs) i no_drop w)
-                (and_from (has n.eqs (suc i)) _ (has-from n.eqs (suc i) (omega arith) (omega arith)) (or_left (is_zero (item n.eqs (suc i))) _ (ap is_zero (item-next n.eqs i) ∙ and_from _ _ e t))))
-            | false ↦ λ t. absurd (both_ways (is_nonzero_constant (item n.eqs (suc i))) (none-at (λ i. is_nonzero_constant (item n.eqs i)) (length n.eqs) i no_close w)
-                (ap is_nonzero_constant (item-next n.eqs i) ∙ and_from _ _ e (not_from_false _ t)))
+            | true ↦ λ t. absurd (no_zero i w (and_from _ _ e t))
+            | false ↦ λ t. absurd (no_number i w (and_from _ _ e (not_from_false _ t)))
           ] refl
         ] refl
 
 pub next-right : (version : ℕ) (n : Node) → IsRight version n (next version n)
-next-right version n = drop_step (first (λ i. is_valid version n (attempt.Drop i)) (length n.eqs)) refl
+next-right version n = drop_step (first (may_drop version n) (length n.eqs)) refl
   where
-    class_step : first (λ i. is_valid version n (attempt.Drop i)) (length n.eqs) ≡ None → first (λ i. is_nonzero_constant (item n.eqs i)) (length n.eqs) ≡ None
-        → IsRight version n (unwrap_or (class_due n) work.Solved)
-    class_step d c =
-        elim (unsettled_class n) as (λ x. unsettled_class n ≡ x → IsRight version n (unwrap_or (elim x as (λ _. Option Next) [ zero ↦ None | suc x ↦ Some (work.Try (work_on n (suc x))) ]) work.Solved)) [
-          | zero ↦ λ e. solved-right version n d c e
-          | suc x ↦ λ e. work-right version n x e
-        ] refl
-
     inside : (test : ℕ → Bool) (i : ℕ) → first test (length n.eqs) ≡ Some i → (has n.eqs i ≡ true) × (test i ≡ true)
     inside test i e =
         let f = first_from-passes test (length n.eqs) 1 i e in
         let at : i ≡ f.at = ap (λ r. unwrap_or r 0) f.found in
         (ap (has n.eqs) at ∙ has-from n.eqs f.at f.low f.high, ap test at ∙ f.passes)
 
-    clash_step : (r : Option ℕ) → first (λ i. has_polynomial n.nes (item n.eqs i)) (length n.eqs) ≡ r
-        → first (λ i. is_valid version n (attempt.Drop i)) (length n.eqs) ≡ None → first (λ i. is_nonzero_constant (item n.eqs i)) (length n.eqs) ≡ None
+    class_step : first (may_drop version n) (length n.eqs) ≡ None → first (may_close n) (length n.eqs) ≡ None
+        → IsRight version n (unwrap_or (class_due n) work.Solved)
+    class_step d c =
+        elim (unsettled_class n) as (λ x. unsettled_class n ≡ x
+        → IsRight version n (unwrap_or (elim x as (λ _. Option Next) [ zero ↦ None | suc x ↦ Some (work.Try (work_on n (suc x))) ]) work.Solved)) [
+          | zero ↦ λ e. solved-right version n d c e
+          | suc x ↦ λ e. work-right version n x e
+        ] refl
+
+    clash_step : (r : Option ℕ) → first (may_clash n) (length n.eqs) ≡ r
+        → first (may_drop version n) (length n.eqs) ≡ None → first (may_close n) (length n.eqs) ≡ None
         → IsRight version n (unwrap_or (option_map (λ i. work.Clashed i (number_in n.nes (item n.eqs i))) r) (unwrap_or (class_due n) work.Solved))
-    clash_step (Some i) e d c = let h = inside (λ i. has_polynomial n.nes (item n.eqs i)) i e in clash-right version n i h.0 h.1
+    clash_step (Some i) e d c = let h = inside (may_clash n) i e in clash-right version n i h.0 h.1
     clash_step None e d c = class_step d c
 
-    close_step : (r : Option ℕ) → first (λ i. is_nonzero_constant (item n.eqs i)) (length n.eqs) ≡ r → first (λ i. is_valid version n (attempt.Drop i)) (length n.eqs) ≡ None
+    close_step : (r : Option ℕ) → first (may_close n) (length n.eqs) ≡ r → first (may_drop version n) (length n.eqs) ≡ None
         → IsRight version n (unwrap_or (option_map work.Closed r) (unwrap_or (clash_due n) (unwrap_or (class_due n) work.Solved)))
-    close_step (Some i) e d = let h = inside (λ i. is_nonzero_constant (item n.eqs i)) i e in h
-    close_step None e d = clash_step (first (λ i. has_polynomial n.nes (item n.eqs i)) (length n.eqs)) refl d e
+    close_step (Some i) e d = inside (may_close n) i e
+    close_step None e d = clash_step (first (may_clash n) (length n.eqs)) refl d e
 
-    drop_step : (r : Option ℕ) → first (λ i. is_valid version n (attempt.Drop i)) (length n.eqs) ≡ r
-        → IsRight version n (unwrap_or (option_map (λ i. work.Try (attempt.Drop i)) r) (unwrap_or (close_due n) (unwrap_or (clash_due n) (unwrap_or (class_due n) work.Solved))))
-    drop_step (Some i) e = (inside (λ i. is_valid version n (attempt.Drop i)) i e).1
-    drop_step None e = close_step (first (λ i. is_nonzero_constant (item n.eqs i)) (length n.eqs)) refl e
+    drop_step : (r : Option ℕ) → first (may_drop version n) (length n.eqs) ≡ r
+        → IsRight version n (unwrap_or (option_map (λ i. work.Try (attempt.Drop i)) r)
+        (unwrap_or (close_due n) (unwrap_or (clash_due n) (unwrap_or (class_due n) work.Solved))))
+    drop_step (Some i) e = (inside (may_drop version n) i e).1
+    drop_step None e = close_step (first (may_close n) (length n.eqs)) refl e

@@ -1,45 +1,25 @@
 -- The tree of a node is its piece and the trees of its children, and the tree of a problem is valid.
-use Rattle.std.proofs.Common.{◌≡◌, ℕ, ◌+◌, ◌-◌, ◌<◌, ◌≤◌, zero, suc, List, [], ◌∷◌, ◌++◌, length, refl, sym, ◌∙◌, ap, arith, append_assoc, Bool, true, false, ◌&&◌}
-use Rattle.std.specs.Prelude.{◌==◌, Option, Some, None, nat_lt, nat_le, if◌then◌else◌, ℤ}
+use Rattle.std.proofs.Common.{◌≡◌, ℕ, ◌≤◌, zero, suc, List, [], ◌∷◌, ◌++◌, refl, sym, ◌∙◌, ap, arith, append_assoc, Bool, false}
+use Rattle.std.specs.Prelude.{Some, None, nat_le}
 use Rattle.std.specs.List.{flat_map}
-use Rattle.std.specs.Ordering.{int_eq}
-use Rattle.std.proofs.lemmas.Bool.{and_from, or_parts, eq-eqb, le-leb, ltb-false}
+use Rattle.std.proofs.lemmas.Bool.{and_from, le-leb}
 use Rattle.std.proofs.lemmas.List.{append-nil}
-use Rattle.std.proofs.lemmas.Bool.Decides.{Decides-int_eq}
 use Rattle.poly_model.specs.Polynomial.{Polynomial}
-use Rattle.proof_steps.specs.Numbers.{item, has, replaced}
-use Rattle.poly_model.specs.Reduction.{same, primitive_initial, primitive_tail, reduction_of}
-use Rattle.proof_steps.specs.Reasons.{same_reason, rank_of}
-use Rattle.proof_steps.specs.Rules.{is_valid, is_triangular, reduction_limit, is_short, reason_of, size_of, attempt_of, tells_result, stepped, dropped, reduced, cut, plus_child, minus_child}
-use Rattle.proof_steps.specs.Chain as chain
-use Rattle.proof_steps.specs.Chain.{Due, due_of, chain_reason, is_step, is_unreduced, status_fits, step_due, chain_fits, chain_stopped, chain_due, chain_within, chain_of}
-use Rattle.proof_steps.specs.Work as work
-use Rattle.proof_steps.specs.Work.{Next, next}
-use Rattle.proof_steps.specs.Trees.{step_fits, after_steps, same_path, same_list, lists, outcome_fits, children, follow, are_trees, root_of, Recorded, AsStep, AsOutcome, recorded_as, bare, listing, with_step, follow_at, expansion_recorded, expansion_tried, expansion_by, expansion_within, expansion_of, tree_within, tree_at, tree_of}
+use Rattle.proof_steps.specs.Rules.{size_of}
+use Rattle.proof_steps.specs.Trees.{are_trees, root_of, expansion_of, tree_within, tree_at, tree_of}
 use Rattle.proof_steps.specs.declared.piece.Node.{Node}
 use Rattle.proof_steps.specs.declared.piece.Piece.{Piece}
-use Rattle.proof_steps.specs.declared.piece.ChainStep.{ChainStep}
-use Rattle.proof_steps.specs.declared.piece.LeafStatus.{LeafStatus}
-use Rattle.proof_steps.specs.declared.piece.LeafStatus.TheVariants as status
-use Rattle.proof_steps.specs.declared.piece.Outcome.{Outcome}
-use Rattle.proof_steps.specs.declared.piece.Outcome.TheVariants as outcome
-use Rattle.proof_steps.specs.declared.step.Attempt.{Attempt}
-use Rattle.proof_steps.specs.declared.step.Attempt.TheVariants as attempt
-use Rattle.proof_steps.specs.declared.step.Step.{Step}
-use Rattle.poly_model.specs.declared.limits.Reason.{Reason}
-use Rattle.poly_model.specs.declared.limits.Reason.TheVariants.{Fuel}
-use Rattle.poly_model.specs.Equality.{same-is, same-self}
-use Rattle.tree_laws.specs.Due.{IsRight}
-use Rattle.tree_laws.proofs.Due.{next-right}
-use Rattle.tree_laws.proofs.Unfold.{size-some, not-short, holds-size, one-short}
+use Rattle.tree_laws.proofs.Unfold.{size-some}
 use Rattle.tree_laws.specs.Growth.{TreesAreValid, TreesUnfold}
-
 use Rattle.tree_laws.specs.Costs.{HaveLess}
 use Rattle.tree_laws.proofs.Worked.{fit-more, worked}
 
 -- ---- trees
-forest-fits : (k version : ℕ) (cons : List Polynomial) → ((m : Node) (ns : List Node) (ps : List Piece) → m.fuel ≤ k → size_of m ≤ m.fuel → are_trees version cons (m ∷ ns) (tree_within k version cons m ++ ps) ≡ are_trees version cons ns ps)
-    → (ms : List Node) (ns : List Node) (ps : List Piece) → HaveLess (suc k) ms → are_trees version cons (ms ++ ns) (flat_map (λ m. tree_within k version cons m) ms ++ ps) ≡ are_trees version cons ns ps
+forest-fits : (k version : ℕ) (cons : List Polynomial)
+    → ((m : Node) (ns : List Node) (ps : List Piece) → m.fuel ≤ k → size_of m ≤ m.fuel
+    → are_trees version cons (m ∷ ns) (tree_within k version cons m ++ ps) ≡ are_trees version cons ns ps)
+    → (ms : List Node) (ns : List Node) (ps : List Piece) → HaveLess (suc k) ms
+    → are_trees version cons (ms ++ ns) (flat_map (λ m. tree_within k version cons m) ms ++ ps) ≡ are_trees version cons ns ps
 forest-fits k version cons h [] ns ps a = refl
 forest-fits k version cons h (m ∷ ms) ns ps a =
     ap (are_trees version cons (m ∷ (ms ++ ns))) (append_assoc (tree_within k version cons m) (flat_map (λ m. tree_within k version cons m) ms) ps)
@@ -53,23 +33,30 @@ tree-fits zero version cons n ns ps low enough = absurd (let s = size-some n in 
 tree-fits (suc k) version cons n ns ps low enough =
     let w = worked n.fuel version cons n (omega arith) enough in
     let ms = (expansion_of version cons n).1 in
-    ap (λ r. elim r as (λ _. Bool) [ None ↦ false | Some ms ↦ are_trees version cons (ms ++ ns) (flat_map (λ m. tree_within k version cons m) (expansion_of version cons n).1 ++ ps) ]) w.follows
+    ap (λ r. elim r as (λ _. Bool) [
+      | None ↦ false
+      | Some ms ↦ are_trees version cons (ms ++ ns) (flat_map (λ m. tree_within k version cons m) (expansion_of version cons n).1 ++ ps)
+    ]) w.follows
     ∙ forest-fits k version cons (λ m ns ps less fits. tree-fits k version cons m ns ps less fits) ms ns ps (fit-more n.fuel (suc k) ms low w.smaller)
 
 pub trees-valid : TreesAreValid
 trees-valid version problem fuel enough =
     let root = root_of problem fuel in
     and_from (nat_le (size_of root) fuel) _ (le-leb (size_of root) fuel enough)
-    (ap (are_trees version problem.cons (root ∷ [])) (sym (append-nil (tree_of version problem fuel))) ∙ tree-fits fuel version problem.cons root [] [] (omega arith) enough)
+    (ap (are_trees version problem.cons (root ∷ [])) (sym (append-nil (tree_of version problem fuel)))
+    ∙ tree-fits fuel version problem.cons root [] [] (omega arith) enough)
 
 -- ---- any number that the fuel does not pass gives the same tree
-forest-same : (k l version : ℕ) (cons : List Polynomial) → ((m : Node) → m.fuel ≤ k → m.fuel ≤ l → size_of m ≤ m.fuel → tree_within k version cons m ≡ tree_within l version cons m)
-    → (ms : List Node) → HaveLess (suc k) ms → HaveLess (suc l) ms → flat_map (λ m. tree_within k version cons m) ms ≡ flat_map (λ m. tree_within l version cons m) ms
+forest-same : (k l version : ℕ) (cons : List Polynomial)
+    → ((m : Node) → m.fuel ≤ k → m.fuel ≤ l → size_of m ≤ m.fuel → tree_within k version cons m ≡ tree_within l version cons m)
+    → (ms : List Node) → HaveLess (suc k) ms → HaveLess (suc l) ms
+    → flat_map (λ m. tree_within k version cons m) ms ≡ flat_map (λ m. tree_within l version cons m) ms
 forest-same k l version cons h [] a b = refl
 forest-same k l version cons h (m ∷ ms) a b = λ i.
     h m (let c = a.0 in omega (arith, c)) (let c = b.0 in omega (arith, c)) a.1 i ++ forest-same k l version cons h ms a.2 b.2 i
 
-tree-same : (k l version : ℕ) (cons : List Polynomial) (n : Node) → n.fuel ≤ k → n.fuel ≤ l → size_of n ≤ n.fuel → tree_within k version cons n ≡ tree_within l version cons n
+tree-same : (k l version : ℕ) (cons : List Polynomial) (n : Node) → n.fuel ≤ k → n.fuel ≤ l → size_of n ≤ n.fuel
+    → tree_within k version cons n ≡ tree_within l version cons n
 unfolding tree_within
 tree-same zero l version cons n low high enough = absurd (let s = size-some n in omega (arith, s))
 tree-same (suc k) zero version cons n low high enough = absurd (let s = size-some n in omega (arith, s))
@@ -77,13 +64,17 @@ tree-same (suc k) (suc l) version cons n low high enough =
     let w = worked n.fuel version cons n (omega arith) enough in
     let ms = (expansion_of version cons n).1 in
     ap (λ t. (expansion_of version cons n).0 ∷ t)
-    (forest-same k l version cons (λ m a b c. tree-same k l version cons m a b c) ms (fit-more n.fuel (suc k) ms low w.smaller) (fit-more n.fuel (suc l) ms high w.smaller))
+    (forest-same k l version cons (λ m a b c. tree-same k l version cons m a b c) ms (fit-more n.fuel (suc k) ms low w.smaller)
+    (fit-more n.fuel (suc l) ms high w.smaller))
 
-forest-at : (k version : ℕ) (cons : List Polynomial) (ms : List Node) → HaveLess (suc k) ms → flat_map (λ m. tree_within k version cons m) ms ≡ flat_map (λ m. tree_at version cons m) ms
+forest-at : (k version : ℕ) (cons : List Polynomial) (ms : List Node) → HaveLess (suc k) ms
+    → flat_map (λ m. tree_within k version cons m) ms ≡ flat_map (λ m. tree_at version cons m) ms
 forest-at k version cons [] a = refl
-forest-at k version cons (m ∷ ms) a = λ i. tree-same k m.fuel version cons m (let c = a.0 in omega (arith, c)) (omega arith) a.1 i ++ forest-at k version cons ms a.2 i
+forest-at k version cons (m ∷ ms) a =
+    λ i. tree-same k m.fuel version cons m (let c = a.0 in omega (arith, c)) (omega arith) a.1 i ++ forest-at k version cons ms a.2 i
 
-unfolded : (k version : ℕ) (cons : List Polynomial) (n : Node) → tree_within (suc k) version cons n ≡ (expansion_of version cons n).0 ∷ flat_map (λ m. tree_within k version cons m) (expansion_of version cons n).1
+unfolded : (k version : ℕ) (cons : List Polynomial) (n : Node)
+    → tree_within (suc k) version cons n ≡ (expansion_of version cons n).0 ∷ flat_map (λ m. tree_within k version cons m) (expansion_of version cons n).1
 unfolding tree_within
 unfolded k version cons n = refl
 

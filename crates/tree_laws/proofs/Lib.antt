@@ -4,12 +4,17 @@ pub mod Due
 pub mod Unfold
 -- what fits a node
 pub mod Fitting
-pub mod Following
 -- the tree of a problem
 pub mod Worked
 pub mod Growth
 -- what the fuel pays for
 pub mod Paid
+-- what pieces tell
+pub mod Left
+-- what is within the limits
+pub mod Polynomials
+pub mod Chains
+pub mod Ranged
 -- worked trees
 mod RowWords
 pub mod SmallTrees

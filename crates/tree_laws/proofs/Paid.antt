@@ -1,9 +1,9 @@
 -- The fuel of the nodes pays for the pieces of their trees, and the reasons are the right ones.
-use Rattle.std.proofs.Common.{◌≡◌, ℕ, ◌+◌, ◌-◌, ◌<◌, ◌≤◌, List, [], ◌∷◌, ◌++◌, length, refl, sym, ◌∙◌, ap, subst, arith, Bool, true, false, ◌&&◌}
+use Rattle.std.proofs.Common.{◌≡◌, ℕ, ◌+◌, ◌-◌, ◌≤◌, List, [], ◌∷◌, ◌++◌, length, refl, sym, ◌∙◌, ap, subst, arith, Bool, true, false, ◌&&◌}
 use Rattle.std.specs.Prelude.{Option, Some, None, nat_lt, nat_le, ◌==◌, if◌then◌else◌}
 use Rattle.std.specs.List.{list_any}
 use Rattle.std.specs.Ordering.{int_eq}
-use Rattle.std.proofs.lemmas.Bool.{and_parts, or_parts, or_from, leb-true, ltb-false, lt-ltb}
+use Rattle.std.proofs.lemmas.Bool.{and_parts, or_parts, or_from, leb-true, ltb-true}
 use Rattle.std.proofs.lemmas.Option.{same_Some}
 use Rattle.poly_model.specs.Polynomial.{Polynomial}
 use Rattle.poly_model.specs.Equality.{same-is}
@@ -15,22 +15,20 @@ use Rattle.proof_steps.specs.Reasons.{same_reason}
 use Rattle.proof_steps.specs.Rules.{is_valid, is_triangular, is_short, limit_of, reason_of, size_of, sizes, made, stepped, dropped, reduced, cut, plus_child, minus_child}
 use Rattle.proof_steps.specs.Chain as chain
 use Rattle.proof_steps.specs.Chain.{Due, due_of, chain_reason, is_step, step_due, chain_fits}
-use Rattle.proof_steps.specs.Trees.{step_fits, after_steps, same_list, lists, lists_none, outcome_fits, children, follow, are_trees, root_of, is_tree_of}
+use Rattle.proof_steps.specs.Trees.{step_fits, after_steps, same_list, lists, lists_none, outcome_fits, children, are_trees, root_of}
 use Rattle.proof_steps.specs.declared.piece.ChainStep.{ChainStep}
 use Rattle.proof_steps.specs.declared.piece.LeafStatus.{LeafStatus}
 use Rattle.proof_steps.specs.declared.piece.Node.{Node}
 use Rattle.proof_steps.specs.declared.piece.Outcome.{Outcome}
 use Rattle.proof_steps.specs.declared.piece.Outcome.TheVariants as outcome
 use Rattle.proof_steps.specs.declared.piece.Piece.{Piece}
-use Rattle.proof_steps.specs.declared.problem.Problem.{Problem}
-use Rattle.proof_steps.specs.declared.step.Attempt.{Attempt}
 use Rattle.proof_steps.specs.declared.step.Attempt.TheVariants as attempt
 use Rattle.proof_steps.specs.declared.step.Step.{Step}
 use Rattle.proof_steps.specs.declared.step.Step.TheVariants as step
-use Rattle.tree_laws.specs.Costs.{step_cost, steps_cost, chain_cost, listed_cost, outcome_cost, piece_cost, pieces_cost, total_fuel, HaveFuel, FuelPays, TreesArePaid, ReasonsAreRight}
-use Rattle.tree_laws.proofs.Unfold.{size-some, not-short, holds-size, one-short}
+use Rattle.tree_laws.specs.Costs.{step_cost, steps_cost, chain_cost, listed_cost, outcome_cost, pieces_cost, total_fuel, HaveFuel, FuelPays, TreesArePaid, ReasonsAreRight}
+use Rattle.tree_laws.proofs.Unfold.{reason_by, size-some, not-short, holds-size, one-short}
 use Rattle.tree_laws.proofs.Fitting.{reason-fuel}
-use Rattle.tree_laws.proofs.Following.{same_list-is, fits, none-reason, step-fits, steps-cons, first-of}
+use Rattle.proof_steps.proofs.Following.{same_list-is, fits, none-reason, step-fits, steps-cons, first-of}
 
 pub have-append : (ms ns : List Node) → HaveFuel ms → HaveFuel ns → HaveFuel (ms ++ ns)
 have-append [] ns a b = b
@@ -90,7 +88,8 @@ none-cost p h =
     let y : sizes p.nes ≡ 0 = ap sizes (same_list-is p.nes [] a.1) in
     omega (arith, x, y)
 
-chain-paid : (E : List Polynomial) (k : ℕ) (todo : List Polynomial) (fuel : ℕ) (cs : List ChainStep) (s : LeafStatus) → chain_fits E k todo fuel cs s ≡ true → chain_cost cs ≤ fuel
+chain-paid : (E : List Polynomial) (k : ℕ) (todo : List Polynomial) (fuel : ℕ) (cs : List ChainStep) (s : LeafStatus) → chain_fits E k todo fuel cs s ≡ true
+    → chain_cost cs ≤ fuel
 chain-paid E k todo fuel [] s h = omega arith
 chain-paid E k todo fuel (c ∷ cs) s h = at (due_of E k todo) h (λ j rest left q. chain-paid E j (c.r ∷ rest) left cs s q)
   where
@@ -152,7 +151,8 @@ fuel-pays version cons n p ms enough h =
     let k : total_fuel (children version f.end p.outcome) ≡ total_fuel ms = ap total_fuel f.nodes in
     ((let x = a.within in let y = b.within in omega (arith, x, y, k)), subst HaveFuel f.nodes b.enough)
 
-pub trees-paid : (version : ℕ) (cons : List Polynomial) (ps : List Piece) (ns : List Node) → HaveFuel ns → are_trees version cons ns ps ≡ true → pieces_cost ps ≤ total_fuel ns
+pub trees-paid : (version : ℕ) (cons : List Polynomial) (ps : List Piece) (ns : List Node) → HaveFuel ns → are_trees version cons ns ps ≡ true
+    → pieces_cost ps ≤ total_fuel ns
 trees-paid version cons [] ns a h = omega arith
 trees-paid version cons (p ∷ ps) [] a h = cc
 trees-paid version cons (p ∷ ps) (n ∷ ns) a h =
@@ -163,11 +163,26 @@ trees-paid version cons (p ∷ ps) (n ∷ ns) a h =
     let x = b.0 in
     omega (arith, x, m, k)
 
+-- each piece costs something
+some-cost : (p : Piece) (x : Outcome) → 1 ≤ outcome_cost p x
+some-cost p (outcome.Split f initial) = omega arith
+some-cost p (outcome.Close i) = omega arith
+some-cost p (outcome.Clash i j) = omega arith
+some-cost p (outcome.System chain status) = omega arith
+some-cost p (outcome.Open reason what) = omega arith
+
+few-pieces : (ps : List Piece) → length ps ≤ pieces_cost ps
+few-pieces [] = omega arith
+few-pieces (p ∷ ps) =
+    let some = some-cost p p.outcome in
+    let more = few-pieces ps in
+    omega (arith, some, more)
+
 pub trees-are-paid : TreesArePaid
 trees-are-paid version problem fuel ps h =
     let a = and_parts (nat_le (size_of (root_of problem fuel)) fuel) _ h in
     let m = trees-paid version problem.cons ps (root_of problem fuel ∷ []) (leb-true (size_of (root_of problem fuel)) fuel a.0, tt) a.1 in
-    omega (arith, m)
+    (few-pieces ps, omega (arith, m))
 
 -- ---- reasons
 have-fuel : (ms : List Node) → list_any is_short ms ≡ false → HaveFuel ms
@@ -180,10 +195,7 @@ not-any (m ∷ ms) h = or_from (is_short m) (list_any is_short ms) (long (nat_lt
   where
     long : (b : Bool) → nat_lt m.fuel (size_of m) ≡ b → b ≡ false
     long false e = refl
-    long true e = let below = Rattle.std.proofs.lemmas.Bool.ltb-true m.fuel (size_of m) e in let enough = h.0 in absurd (omega (arith, below, enough))
-
-abbrev reason_by : Option Reason → Bool → Option Reason
-reason_by limit short = elim limit [ Some r ↦ Some r | None ↦ if short then Some Fuel else None ]
+    long true e = let below = ltb-true m.fuel (size_of m) e in let enough = h.0 in absurd (omega (arith, below, enough))
 
 some-apart : (why : Reason) → None ≡ Some why → ⊥
 some-apart why q = cc
@@ -198,8 +210,12 @@ reasons-are-right version n a = (first, short, free)
     unmet : limit_of version n a ≡ None → reason_of version n a ≡ (if list_any is_short (made version n a) then Some Fuel else None)
     unmet e = ap (λ r. reason_by r (list_any is_short (made version n a))) e
 
-    short : limit_of version n a ≡ None → ((HaveFuel (made version n a) → ⊥) → reason_of version n a ≡ Some Fuel) × (reason_of version n a ≡ Some Fuel → HaveFuel (made version n a) → ⊥)
-    short e = (wanting (list_any is_short (made version n a)) refl, λ q h. some-apart Fuel (sym (unmet e ∙ ap (λ b. if b then Some Fuel else None) (not-any (made version n a) h)) ∙ q))
+    short : limit_of version n a ≡ None
+        → ((HaveFuel (made version n a) → ⊥) → reason_of version n a ≡ Some Fuel) × (reason_of version n a ≡ Some Fuel → HaveFuel (made version n a) → ⊥)
+    short e = (
+      wanting (list_any is_short (made version n a)) refl,
+      λ q h. some-apart Fuel (sym (unmet e ∙ ap (λ b. if b then Some Fuel else None) (not-any (made version n a) h)) ∙ q),
+    )
       where
         wanting : (b : Bool) → list_any is_short (made version n a) ≡ b → (HaveFuel (made version n a) → ⊥) → reason_of version n a ≡ Some Fuel
         wanting true t h = unmet e ∙ ap (λ b. if b then Some Fuel else None) t

@@ -1,20 +1,20 @@
 -- Small worked trees, and nodes at the limits. Each polynomial is named by its text.
-use Rattle.std.proofs.Common.{◌≡◌, ℕ, List, [], ◌∷◌, ◌++◌, refl, Bool, true, false, replicate, map, take, drop, set, get_or}
-use Rattle.std.specs.Prelude.{ℤ, pos, negsuc}
+use Rattle.std.proofs.Common.{◌≡◌, ℕ, List, [], ◌∷◌, refl, Bool, replicate, map}
+use Rattle.std.specs.Prelude.{pos, negsuc}
 use Rattle.poly_model.specs.Polynomial.{Polynomial}
 use Rattle.poly_model.specs.declared.limits.Reason.TheVariants as reason
 use Rattle.poly_model.specs.declared.limits.TheConstants.{MOST_FUEL, MOST_LETTERS}
 use Rattle.poly_model.specs.declared.vars.VarName.TheVariants.{U, X}
 use Rattle.proof_steps.specs.Rules.{reduction_limit}
 use Rattle.proof_steps.specs.Chain.{chain_within}
-use Rattle.proof_steps.specs.Trees.{is_tree_of, tree_of, tree_within, expansion_within, expansion_of}
-use Rattle.proof_steps.specs.declared.piece.LeafStatus.TheVariants.{Proved, Remainder}
+use Rattle.proof_steps.specs.Trees.{tree_of, tree_within, expansion_within, expansion_of}
+use Rattle.proof_steps.specs.declared.piece.LeafStatus.TheVariants.{Proved}
 use Rattle.proof_steps.specs.declared.piece.Node.{Node}
 use Rattle.proof_steps.specs.declared.piece.Outcome.TheVariants as outcome
 use Rattle.proof_steps.specs.declared.piece.Piece.{Piece}
 use Rattle.proof_steps.specs.declared.problem.Problem.{Problem}
 use Rattle.proof_steps.specs.declared.step.Attempt.TheVariants as attempt
-use Rattle.proof_steps.specs.declared.step.Step.TheVariants.{Drop, Red, Tail}
+use Rattle.proof_steps.specs.declared.step.Step.TheVariants.{Drop}
 use Rattle.tree_laws.proofs.RowWords.{plus, minus, parting, leaf, chain_step}
 
 -- ---- four midpoints: one leaf; the variables are u1, u2, u3, x1, x2, x3, x4
@@ -37,7 +37,8 @@ abbrev _2*u1*x2-u1*u3 : Polynomial
 _2*u1*x2-u1*u3 = ((1 ∷ 0 ∷ 0 ∷ 0 ∷ 1 ∷ 0 ∷ 0 ∷ []), pos 2) ∷ ((1 ∷ 0 ∷ 1 ∷ 0 ∷ 0 ∷ 0 ∷ 0 ∷ []), negsuc 0) ∷ []
 
 abbrev midpoints : Problem
-midpoints = record { vars = (U 1 ∷ U 2 ∷ U 3 ∷ X 1 ∷ X 2 ∷ X 3 ∷ X 4 ∷ []); hyps = (_2*x1-u2 ∷ _2*x2-u3 ∷ _2*x3-u2-u1 ∷ _2*x4-u3 ∷ []); cons = (u1*x4-u1*x2 ∷ []) }
+midpoints =
+    record { vars = (U 1 ∷ U 2 ∷ U 3 ∷ X 1 ∷ X 2 ∷ X 3 ∷ X 4 ∷ []); hyps = (_2*x1-u2 ∷ _2*x2-u3 ∷ _2*x3-u2-u1 ∷ _2*x4-u3 ∷ []); cons = (u1*x4-u1*x2 ∷ []) }
 
 abbrev midpoints-tree : List Piece
 midpoints-tree =
@@ -90,7 +91,8 @@ no_letter_left : expansion_of 1 [] (edge (replicate MOST_LETTERS plus) MOST_FUEL
 unfolding expansion_within
 no_letter_left = refl
 
-no_fuel_left : expansion_of 1 [] (edge [] 6) ≡ (record { path = []; steps = []; eqs = u1*x1 ∷ []; nes = []; outcome = outcome.Open reason.Fuel (attempt.Split 1) }, [])
+no_fuel_left : expansion_of 1 [] (edge [] 6)
+    ≡ (record { path = []; steps = []; eqs = u1*x1 ∷ []; nes = []; outcome = outcome.Open reason.Fuel (attempt.Split 1) }, [])
 unfolding expansion_within
 no_fuel_left = refl
 
@@ -101,6 +103,7 @@ fuel_is_parted = refl
 abbrev steep : Node
 steep = record { path = []; eqs = u1^40*x1+1 ∷ u1^30*x1 ∷ []; nes = u1^30 ∷ []; fuel = 1000 }
 
-degree_is_met : expansion_of 1 [] steep ≡ (record { path = []; steps = []; eqs = steep.eqs; nes = steep.nes; outcome = outcome.Open reason.Degree (attempt.Red 1 2) }, [])
+degree_is_met : expansion_of 1 [] steep
+    ≡ (record { path = []; steps = []; eqs = steep.eqs; nes = steep.nes; outcome = outcome.Open reason.Degree (attempt.Red 1 2) }, [])
 unfolding reduction_limit expansion_within
 degree_is_met = refl

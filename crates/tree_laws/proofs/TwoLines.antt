@@ -1,20 +1,16 @@
 -- A worked tree of nineteen pieces, and four lists of pieces that are no trees of its problem. Each polynomial is named by
 -- its text.
-use Rattle.std.proofs.Common.{◌≡◌, ℕ, List, [], ◌∷◌, ◌++◌, refl, Bool, true, false, replicate, map, take, drop, set, get_or}
-use Rattle.std.specs.Prelude.{ℤ, pos, negsuc}
+use Rattle.std.proofs.Common.{◌≡◌, List, [], ◌∷◌, ◌++◌, refl, false, take, drop, set}
+use Rattle.std.specs.Prelude.{pos, negsuc}
 use Rattle.poly_model.specs.Polynomial.{Polynomial}
-use Rattle.poly_model.specs.declared.limits.Reason.TheVariants as reason
-use Rattle.poly_model.specs.declared.limits.TheConstants.{MOST_FUEL, MOST_LETTERS}
+use Rattle.poly_model.specs.declared.limits.TheConstants.{MOST_FUEL}
 use Rattle.poly_model.specs.declared.vars.VarName.TheVariants.{U, X}
 use Rattle.proof_steps.specs.Rules.{reduction_limit}
 use Rattle.proof_steps.specs.Chain.{chain_within}
-use Rattle.proof_steps.specs.Trees.{is_tree_of, tree_of, tree_within, expansion_within, expansion_of}
+use Rattle.proof_steps.specs.Trees.{is_tree_of, tree_of, tree_within, expansion_within}
 use Rattle.proof_steps.specs.declared.piece.LeafStatus.TheVariants.{Proved, Remainder}
-use Rattle.proof_steps.specs.declared.piece.Node.{Node}
-use Rattle.proof_steps.specs.declared.piece.Outcome.TheVariants as outcome
 use Rattle.proof_steps.specs.declared.piece.Piece.{Piece}
 use Rattle.proof_steps.specs.declared.problem.Problem.{Problem}
-use Rattle.proof_steps.specs.declared.step.Attempt.TheVariants as attempt
 use Rattle.proof_steps.specs.declared.step.Step.TheVariants.{Drop, Red, Tail}
 use Rattle.tree_laws.proofs.RowWords.{plus, minus, parting, leaf, chain_step}
 
@@ -90,19 +86,30 @@ two_lines-tree =
     ∷ parting (plus ∷ minus ∷ []) [] 2 u1*u2
     ∷ leaf (plus ∷ minus ∷ plus ∷ []) (Red 3 2 (pos 1) [] ∷ Drop 3 ∷ []) (u3*x2+u2*x1-u1*x1 ∷ u1*u2*u3 ∷ []) (u3 ∷ u1*u2 ∷ []) [] (Remainder 1 u1*x1-u1*u2)
     ∷ parting (plus ∷ minus ∷ minus ∷ []) (Drop 2 ∷ []) 2 u1
-    ∷ leaf (plus ∷ minus ∷ minus ∷ plus ∷ []) [] (u3*x2+u2*x1-u1*x1 ∷ u1*u3 ∷ u1*u2 ∷ []) (u3 ∷ u1 ∷ []) (chain_step 1 3 (pos 1) u1^2*x1 ∷ []) (Remainder 1 u1^2*x1)
-    ∷ leaf (plus ∷ minus ∷ minus ∷ minus ∷ []) (Drop 2 ∷ Tail 2 [] ∷ Drop 2 ∷ []) (u3*x2+u2*x1-u1*x1 ∷ u1 ∷ []) (u3 ∷ []) (chain_step 1 2 (pos 1) [] ∷ []) Proved
+    ∷ leaf (plus ∷ minus ∷ minus ∷ plus ∷ []) []
+    (u3*x2+u2*x1-u1*x1 ∷ u1*u3 ∷ u1*u2 ∷ []) (u3 ∷ u1 ∷ []) (chain_step 1 3 (pos 1) u1^2*x1 ∷ []) (Remainder 1 u1^2*x1)
+    ∷ leaf (plus ∷ minus ∷ minus ∷ minus ∷ []) (Drop 2 ∷ Tail 2 [] ∷ Drop 2 ∷ [])
+    (u3*x2+u2*x1-u1*x1 ∷ u1 ∷ []) (u3 ∷ []) (chain_step 1 2 (pos 1) [] ∷ []) Proved
     ∷ parting (minus ∷ []) (Tail 2 u2*x1-u1*u2 ∷ []) 1 u2-u1
     ∷ parting (minus ∷ plus ∷ []) (Red 2 1 (negsuc 0) u1*u2^2-u1^2*u2 ∷ []) 2 u1
-    ∷ leaf (minus ∷ plus ∷ plus ∷ []) [] (u2*x1-u1*x1 ∷ u1*u2^2-u1^2*u2 ∷ u3 ∷ []) (u2-u1 ∷ u1 ∷ []) (chain_step 1 1 (negsuc 0) u1*u2^2-u1^2*u2 ∷ chain_step 1 2 (pos 1) [] ∷ []) Proved
+    ∷ leaf (minus ∷ plus ∷ plus ∷ []) []
+    (u2*x1-u1*x1 ∷ u1*u2^2-u1^2*u2 ∷ u3 ∷ []) (u2-u1 ∷ u1 ∷ [])
+    (chain_step 1 1 (negsuc 0) u1*u2^2-u1^2*u2 ∷ chain_step 1 2 (pos 1) [] ∷ []) Proved
     ∷ parting (minus ∷ plus ∷ minus ∷ []) [] 2 u1^2
-    ∷ leaf (minus ∷ plus ∷ minus ∷ plus ∷ []) [] (u2*x1-u1*x1 ∷ u1^2*u2 ∷ u3 ∷ u1 ∷ []) (u2-u1 ∷ u1^2 ∷ []) (chain_step 1 1 (negsuc 0) u1*u2^2-u1^2*u2 ∷ chain_step 1 2 (negsuc 0) u1^4*u2 ∷ chain_step 1 2 (pos 1) [] ∷ []) Proved
-    ∷ leaf (minus ∷ plus ∷ minus ∷ minus ∷ []) (Drop 2 ∷ Red 4 3 (pos 1) [] ∷ Drop 4 ∷ []) (u2*x1-u1*x1 ∷ u3 ∷ u1 ∷ []) (u2-u1 ∷ []) (chain_step 1 1 (negsuc 0) u1*u2^2-u1^2*u2 ∷ chain_step 1 3 (pos 1) u1*u2^2 ∷ chain_step 1 3 (pos 1) [] ∷ []) Proved
+    ∷ leaf (minus ∷ plus ∷ minus ∷ plus ∷ []) []
+    (u2*x1-u1*x1 ∷ u1^2*u2 ∷ u3 ∷ u1 ∷ []) (u2-u1 ∷ u1^2 ∷ [])
+    (chain_step 1 1 (negsuc 0) u1*u2^2-u1^2*u2 ∷ chain_step 1 2 (negsuc 0) u1^4*u2 ∷ chain_step 1 2 (pos 1) [] ∷ []) Proved
+    ∷ leaf (minus ∷ plus ∷ minus ∷ minus ∷ []) (Drop 2 ∷ Red 4 3 (pos 1) [] ∷ Drop 4 ∷ [])
+    (u2*x1-u1*x1 ∷ u3 ∷ u1 ∷ []) (u2-u1 ∷ [])
+    (chain_step 1 1 (negsuc 0) u1*u2^2-u1^2*u2 ∷ chain_step 1 3 (pos 1) u1*u2^2 ∷ chain_step 1 3 (pos 1) [] ∷ []) Proved
     ∷ parting (minus ∷ minus ∷ []) (Drop 1 ∷ []) 1 u2
-    ∷ leaf (minus ∷ minus ∷ plus ∷ []) [] (u2*x1-u1*u2 ∷ u3 ∷ u2-u1 ∷ []) (u2 ∷ []) (chain_step 1 1 (negsuc 0) u1*u2^2-u1^2*u2 ∷ chain_step 1 3 (pos 1) [] ∷ []) Proved
+    ∷ leaf (minus ∷ minus ∷ plus ∷ []) []
+    (u2*x1-u1*u2 ∷ u3 ∷ u2-u1 ∷ []) (u2 ∷ []) (chain_step 1 1 (negsuc 0) u1*u2^2-u1^2*u2 ∷ chain_step 1 3 (pos 1) [] ∷ []) Proved
     ∷ parting (minus ∷ minus ∷ minus ∷ []) [] 1 u1
-    ∷ leaf (minus ∷ minus ∷ minus ∷ plus ∷ []) (Red 3 1 (negsuc 0) u1^2 ∷ Red 4 1 (pos 1) [] ∷ Drop 4 ∷ []) (u1*u2 ∷ u3 ∷ u1^2 ∷ []) (u1 ∷ []) (chain_step 1 1 (pos 1) u1^2*x1 ∷ chain_step 1 3 (pos 1) [] ∷ []) Proved
-    ∷ leaf (minus ∷ minus ∷ minus ∷ minus ∷ []) (Drop 1 ∷ Red 2 3 (negsuc 0) u1 ∷ Drop 4 ∷ []) (u3 ∷ u1 ∷ u2 ∷ []) [] (chain_step 1 3 (pos 1) u1*x1 ∷ chain_step 1 2 (pos 1) [] ∷ []) Proved
+    ∷ leaf (minus ∷ minus ∷ minus ∷ plus ∷ []) (Red 3 1 (negsuc 0) u1^2 ∷ Red 4 1 (pos 1) [] ∷ Drop 4 ∷ [])
+    (u1*u2 ∷ u3 ∷ u1^2 ∷ []) (u1 ∷ []) (chain_step 1 1 (pos 1) u1^2*x1 ∷ chain_step 1 3 (pos 1) [] ∷ []) Proved
+    ∷ leaf (minus ∷ minus ∷ minus ∷ minus ∷ []) (Drop 1 ∷ Red 2 3 (negsuc 0) u1 ∷ Drop 4 ∷ [])
+    (u3 ∷ u1 ∷ u2 ∷ []) [] (chain_step 1 3 (pos 1) u1*x1 ∷ chain_step 1 2 (pos 1) [] ∷ []) Proved
     ∷ []
 
 two_lines-grows : tree_of 1 two_lines MOST_FUEL ≡ two_lines-tree

@@ -10,7 +10,6 @@ use Rattle.proof_steps.specs.Work.{Next, next}
 use Rattle.proof_steps.specs.Trees.{Recorded, AsStep, AsOutcome, recorded_as, with_step, expansion_recorded, expansion_tried, expansion_by, expansion_within, expansion_of}
 use Rattle.proof_steps.specs.declared.piece.Node.{Node}
 use Rattle.proof_steps.specs.declared.piece.Piece.{Piece}
-use Rattle.proof_steps.specs.declared.piece.Outcome.{Outcome}
 use Rattle.proof_steps.specs.declared.step.Attempt.{Attempt}
 use Rattle.proof_steps.specs.declared.step.Attempt.TheVariants as attempt
 use Rattle.proof_steps.specs.declared.step.Step.{Step}
@@ -20,16 +19,17 @@ use Rattle.poly_model.specs.declared.limits.Reason.TheVariants.{Fuel}
 pub size-some : (n : Node) → 4 ≤ size_of n
 size-some n = omega arith
 
+-- the reason by the limit that is met, and by whether fuel is short
+abbrev pub reason_by : Option Reason → Bool → Option Reason
+reason_by limit short = elim limit [ Some r ↦ Some r | None ↦ if short then Some Fuel else None ]
+
+pub reason_by-none : (limit : Option Reason) (short : Bool) → reason_by limit short ≡ None → (limit ≡ None) × (short ≡ false)
+reason_by-none (Some why) short q = cc
+reason_by-none None true q = cc
+reason_by-none None false q = (refl, refl)
+
 pub not-short : (version : ℕ) (n : Node) (a : Attempt) → reason_of version n a ≡ None → list_any is_short (made version n a) ≡ false
-not-short version n a e =
-    elim (limit_of version n a) as (λ r. (elim r as (λ _. Option Reason) [ Some w ↦ Some w | None ↦ if list_any is_short (made version n a) then Some Fuel else None ]) ≡ None → list_any is_short (made version n a) ≡ false) [
-      | Some w ↦ λ q. cc
-      | None ↦ λ q. unmet (list_any is_short (made version n a)) q
-    ] e
-  where
-    unmet : (b : Bool) → (if b then Some Fuel else None) ≡ None → b ≡ false
-    unmet true q = cc
-    unmet false q = refl
+not-short version n a e = (reason_by-none (limit_of version n a) (list_any is_short (made version n a)) e).1
 
 pub holds-size : (m : Node) → is_short m ≡ false → size_of m ≤ m.fuel
 holds-size m h = ltb-false m.fuel (size_of m) h
@@ -84,7 +84,8 @@ by-same p q version cons n h (work.Try a) = tried (reason_of version n a) refl
     tried (Some why) e = refl
     tried None e = taken e (recorded_as n a) refl
 
-expansion-same : (k l version : ℕ) (cons : List Polynomial) (n : Node) → n.fuel ≤ k → n.fuel ≤ l → size_of n ≤ n.fuel → expansion_within k version cons n ≡ expansion_within l version cons n
+expansion-same : (k l version : ℕ) (cons : List Polynomial) (n : Node) → n.fuel ≤ k → n.fuel ≤ l → size_of n ≤ n.fuel
+    → expansion_within k version cons n ≡ expansion_within l version cons n
 unfolding expansion_within
 expansion-same zero l version cons n low high enough = absurd (let s = size-some n in omega (arith, s))
 expansion-same (suc k) zero version cons n low high enough = absurd (let s = size-some n in omega (arith, s))
@@ -92,12 +93,14 @@ expansion-same (suc k) (suc l) version cons n low high enough =
     by-same (λ m. expansion_within k version cons m) (λ m. expansion_within l version cons m) version cons n
     (λ m less fits. expansion-same k l version cons m (omega arith) (omega arith) fits) (next version n)
 
-unfolded : (k version : ℕ) (cons : List Polynomial) (n : Node) → expansion_within (suc k) version cons n ≡ expansion_by (λ m. expansion_within k version cons m) version cons n (next version n)
+unfolded : (k version : ℕ) (cons : List Polynomial) (n : Node)
+    → expansion_within (suc k) version cons n ≡ expansion_by (λ m. expansion_within k version cons m) version cons n (next version n)
 unfolding expansion_within
 unfolded k version cons n = refl
 
 -- the expansion of a node goes by what is due there, and after a step by the expansion of the node that is left
-pub expansion-is : (version : ℕ) (cons : List Polynomial) (n : Node) → size_of n ≤ n.fuel → expansion_of version cons n ≡ expansion_by (λ m. expansion_of version cons m) version cons n (next version n)
+pub expansion-is : (version : ℕ) (cons : List Polynomial) (n : Node) → size_of n ≤ n.fuel
+    → expansion_of version cons n ≡ expansion_by (λ m. expansion_of version cons m) version cons n (next version n)
 expansion-is version cons n enough =
     expansion-same n.fuel (suc n.fuel) version cons n (omega arith) (omega arith) enough ∙ unfolded n.fuel version cons n
     ∙ by-same (λ m. expansion_within n.fuel version cons m) (λ m. expansion_of version cons m) version cons n
@@ -125,7 +128,8 @@ pub record IsRest (version : ℕ) (cons : List Polynomial) (n : Node) (steps : L
 abbrev pub more : ℕ → List Polynomial → Node → Piece × List Node
 more version cons m = expansion_of version cons m
 
-rest : (version : ℕ) (cons : List Polynomial) (n here : Node) (steps : List Step) → Whole version cons n here steps → (e : Piece × List Node) → expansion_of version cons here ≡ e
+rest : (version : ℕ) (cons : List Polynomial) (n here : Node) (steps : List Step) → Whole version cons n here steps → (e : Piece × List Node)
+    → expansion_of version cons here ≡ e
     → IsRest version cons n steps e
 rest version cons n here steps w e q = record {
   piece = ap (λ (t : Piece × List Node). prefixed steps t.0) (sym q) ∙ sym w.piece;
@@ -141,10 +145,12 @@ pub by_reason : (version : ℕ) (cons : List Polynomial) (n here : Node) (steps 
     → work.Try a ≡ next version here → reason_of version here a ≡ r → IsRest version cons n steps (expansion_tried (more version cons) version here a r)
 by_reason version cons n here steps a r w q e =
     rest version cons n here steps w _
-    (expansion-is version cons here w.enough ∙ ap (expansion_by (more version cons) version cons here) (sym q) ∙ ap (expansion_tried (more version cons) version here a) e)
+    (expansion-is version cons here w.enough ∙ ap (expansion_by (more version cons) version cons here) (sym q)
+    ∙ ap (expansion_tried (more version cons) version here a) e)
 
 pub by_record : (version : ℕ) (cons : List Polynomial) (n here : Node) (steps : List Step) (a : Attempt) (r : Recorded) → Whole version cons n here steps
-    → work.Try a ≡ next version here → reason_of version here a ≡ None → recorded_as here a ≡ r → IsRest version cons n steps (expansion_recorded (more version cons) version here a r)
+    → work.Try a ≡ next version here → reason_of version here a ≡ None → recorded_as here a ≡ r
+    → IsRest version cons n steps (expansion_recorded (more version cons) version here a r)
 by_record version cons n here steps a r w q e t =
     rest version cons n here steps w _
     (expansion-is version cons here w.enough ∙ ap (expansion_by (more version cons) version cons here) (sym q)

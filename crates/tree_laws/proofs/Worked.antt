@@ -1,41 +1,29 @@
 -- The work on a node: its piece follows from it, and its children have fuel for their sizes, and less than the node.
-use Rattle.std.proofs.Common.{◌≡◌, ℕ, ◌+◌, ◌-◌, ◌<◌, ◌≤◌, zero, suc, List, [], ◌∷◌, ◌++◌, length, refl, sym, ◌∙◌, ap, arith, append_assoc, Bool, true, false, ◌&&◌}
-use Rattle.std.specs.Prelude.{◌==◌, Option, Some, None, nat_lt, nat_le, if◌then◌else◌, ℤ}
-use Rattle.std.specs.List.{flat_map}
+use Rattle.std.proofs.Common.{◌≡◌, ℕ, ◌-◌, ◌<◌, ◌≤◌, zero, suc, List, [], ◌∷◌, ◌++◌, refl, ◌∙◌, arith, true}
+use Rattle.std.specs.Prelude.{Option, Some, None}
 use Rattle.std.specs.Ordering.{int_eq}
-use Rattle.std.proofs.lemmas.Bool.{and_from, or_parts, eq-eqb, le-leb, ltb-false}
-use Rattle.std.proofs.lemmas.List.{append-nil}
-use Rattle.std.proofs.lemmas.Bool.Decides.{Decides-int_eq}
+use Rattle.std.proofs.lemmas.Bool.{and_from, or_parts}
 use Rattle.poly_model.specs.Polynomial.{Polynomial}
 use Rattle.proof_steps.specs.Numbers.{item, has, replaced}
 use Rattle.poly_model.specs.Reduction.{same, primitive_initial, primitive_tail, reduction_of}
-use Rattle.proof_steps.specs.Reasons.{same_reason, rank_of}
-use Rattle.proof_steps.specs.Rules.{is_valid, is_triangular, reduction_limit, is_short, reason_of, size_of, attempt_of, tells_result, stepped, dropped, reduced, cut, plus_child, minus_child}
-use Rattle.proof_steps.specs.Chain as chain
-use Rattle.proof_steps.specs.Chain.{Due, due_of, chain_reason, is_step, is_unreduced, status_fits, step_due, chain_fits, chain_stopped, chain_due, chain_within, chain_of}
+use Rattle.proof_steps.specs.Rules.{is_valid, is_triangular, is_short, reason_of, size_of, attempt_of, tells_result, stepped, dropped, reduced, cut, plus_child, minus_child}
+use Rattle.proof_steps.specs.Chain.{chain_of}
 use Rattle.proof_steps.specs.Work as work
 use Rattle.proof_steps.specs.Work.{Next, next}
-use Rattle.proof_steps.specs.Trees.{step_fits, after_steps, same_path, same_list, lists, outcome_fits, children, follow, are_trees, root_of, Recorded, AsStep, AsOutcome, recorded_as, bare, listing, with_step, follow_at, expansion_recorded, expansion_tried, expansion_by, expansion_within, expansion_of, tree_within, tree_at, tree_of}
+use Rattle.proof_steps.specs.Trees.{follow, recorded_as, with_step, expansion_recorded, expansion_tried, expansion_by, expansion_within}
 use Rattle.proof_steps.specs.declared.piece.Node.{Node}
 use Rattle.proof_steps.specs.declared.piece.Piece.{Piece}
-use Rattle.proof_steps.specs.declared.piece.ChainStep.{ChainStep}
-use Rattle.proof_steps.specs.declared.piece.LeafStatus.{LeafStatus}
-use Rattle.proof_steps.specs.declared.piece.LeafStatus.TheVariants as status
-use Rattle.proof_steps.specs.declared.piece.Outcome.{Outcome}
 use Rattle.proof_steps.specs.declared.piece.Outcome.TheVariants as outcome
 use Rattle.proof_steps.specs.declared.step.Attempt.{Attempt}
 use Rattle.proof_steps.specs.declared.step.Attempt.TheVariants as attempt
 use Rattle.proof_steps.specs.declared.step.Step.{Step}
 use Rattle.proof_steps.specs.declared.step.Step.TheVariants as step
 use Rattle.poly_model.specs.declared.limits.Reason.{Reason}
-use Rattle.poly_model.specs.declared.limits.Reason.TheVariants.{Fuel}
-use Rattle.poly_model.specs.Equality.{same-is, same-self}
+use Rattle.poly_model.specs.Equality.{same-self}
 use Rattle.tree_laws.specs.Due.{IsRight}
 use Rattle.tree_laws.proofs.Due.{next-right}
 use Rattle.tree_laws.proofs.Unfold.{size-some, not-short, holds-size, one-short}
 use Rattle.tree_laws.specs.Costs.{total_fuel, HaveLess, WorkFollows}
-use Rattle.tree_laws.specs.Growth.{TreesAreValid, TreesUnfold}
-
 use Rattle.tree_laws.proofs.Fitting.{same_reason-is, int_eq-self, chain-fits, follow-step, follow-bare, follow-listing, listed-self}
 
 -- ---- fuel
@@ -49,20 +37,26 @@ pub record Worked (version : ℕ) (cons : List Polynomial) (n : Node) (e : Piece
   pub smaller : HaveLess n.fuel e.1
   pub total : total_fuel e.1 < n.fuel
 
-stepping : (version : ℕ) (cons : List Polynomial) (n : Node) (s : Step) (e : Piece × List Node) → is_valid version n (attempt_of s) ≡ true → reason_of version n (attempt_of s) ≡ None → tells_result n s ≡ true
+stepping : (version : ℕ) (cons : List Polynomial) (n : Node) (s : Step) (e : Piece × List Node) → is_valid version n (attempt_of s) ≡ true
+    → reason_of version n (attempt_of s) ≡ None → tells_result n s ≡ true
     → (stepped n s).path ≡ n.path → (stepped n s).fuel ≤ n.fuel → Worked version cons (stepped n s) e → Worked version cons n (with_step s e.0, e.1)
 stepping version cons n s e valid free tells path less w = record {
-  follows = follow-step version cons n s e.0 (and_from _ _ (and_from (is_valid version n (attempt_of s)) _ valid (same_reason-is _ _ free)) tells) path ∙ w.follows;
+  follows =
+      follow-step version cons n s e.0 (and_from _ _ (and_from (is_valid version n (attempt_of s)) _ valid (same_reason-is _ _ free)) tells) path ∙ w.follows;
   smaller = fit-more (stepped n s).fuel n.fuel e.1 less w.smaller;
   total = (let t = w.total in omega (arith, t, less));
 }
+
+-- the expansions of nodes with at most so much fuel, by as many rules
+abbrev Works : (k version : ℕ) → List Polynomial → Type 0
+Works k version cons = (m : Node) → m.fuel ≤ k → size_of m ≤ m.fuel → Worked version cons m (expansion_within k version cons m)
 
 pub worked : (k version : ℕ) (cons : List Polynomial) (n : Node) → n.fuel ≤ k → size_of n ≤ n.fuel → Worked version cons n (expansion_within k version cons n)
 unfolding expansion_within
 worked zero version cons n low enough = absurd (let s = size-some n in omega (arith, s))
 worked (suc k) version cons n low enough = by (next version n) (next-right version n) (λ m less fits. worked k version cons m less fits)
   where
-    recorded : ((m : Node) → m.fuel ≤ k → size_of m ≤ m.fuel → Worked version cons m (expansion_within k version cons m)) → (a : Attempt) → is_valid version n a ≡ true → reason_of version n a ≡ None
+    recorded : Works k version cons → (a : Attempt) → is_valid version n a ≡ true → reason_of version n a ≡ None
         → Worked version cons n (expansion_recorded (λ m. expansion_within k version cons m) version n a (recorded_as n a))
     recorded more (attempt.Drop i) valid free =
         let fits = one-short (dropped n i) (not-short version n (attempt.Drop i) free) in
@@ -77,7 +71,8 @@ worked (suc k) version cons n low enough = by (next version n) (next-right versi
     recorded more (attempt.Tail f) valid free =
         let fits = one-short (cut n f) (not-short version n (attempt.Tail f) free) in
         let some = size-some (cut n f) in
-        stepping version cons n (step.Tail f (primitive_tail (item n.eqs f))) _ valid free (same-self (primitive_tail (item n.eqs f))) refl (omega arith) (more (cut n f) (omega (arith, fits, some, low)) fits)
+        let T = primitive_tail (item n.eqs f) in
+        stepping version cons n (step.Tail f T) _ valid free (same-self T) refl (omega arith) (more (cut n f) (omega (arith, fits, some, low)) fits)
     recorded more (attempt.Split f) valid free =
         let J = primitive_initial (item n.eqs f) in
         let rest = replaced n.eqs f (primitive_tail (item n.eqs f)) ++ J ∷ [] in
@@ -86,29 +81,45 @@ worked (suc k) version cons n low enough = by (next version n) (next-right versi
         let minus = one-short (minus_child n J rest) short.1 in
         let some = size-some (plus_child n J n.eqs rest) in
         record {
-          follows = follow-bare version cons n (outcome.Split f (primitive_initial (item n.eqs f)))
-              (and_from _ _ (and_from (is_valid version n (attempt.Split f)) _ valid (same_reason-is _ _ free)) (and_from (same (primitive_initial (item n.eqs f)) (primitive_initial (item n.eqs f))) _ (same-self (primitive_initial (item n.eqs f))) refl));
-          smaller = ((omega (arith, plus, some)), plus, ((omega (arith, plus, some)), minus, tt));
+          follows = follow-bare version cons n (outcome.Split f J)
+              (and_from _ _ (and_from (is_valid version n (attempt.Split f)) _ valid (same_reason-is _ _ free)) (and_from (same J J) _ (same-self J) refl));
+          smaller = (omega (arith, plus, some), plus, (omega (arith, plus, some), minus, tt));
           total = omega (arith, plus, some);
         }
 
-    tried : ((m : Node) → m.fuel ≤ k → size_of m ≤ m.fuel → Worked version cons m (expansion_within k version cons m)) → (a : Attempt) → is_valid version n a ≡ true → (r : Option Reason) → reason_of version n a ≡ r
+    tried : Works k version cons → (a : Attempt) → is_valid version n a ≡ true → (r : Option Reason) → reason_of version n a ≡ r
         → Worked version cons n (expansion_tried (λ m. expansion_within k version cons m) version n a r)
     tried more a valid (Some why) q = record {
-      follows = follow-listing version cons n (outcome.Open why a) (and_from _ _ (and_from (is_valid version n a) _ valid (same_reason-is _ _ q)) (listed-self n (outcome.Open why a)));
+      follows =
+          follow-listing version cons n (outcome.Open why a)
+          (and_from _ _ (and_from (is_valid version n a) _ valid (same_reason-is _ _ q)) (listed-self n (outcome.Open why a)));
       smaller = tt;
       total = (let s = size-some n in omega (arith, s, enough));
     }
     tried more a valid None q = recorded more a valid q
 
-    by : (x : Next) → IsRight version n x → ((m : Node) → m.fuel ≤ k → size_of m ≤ m.fuel → Worked version cons m (expansion_within k version cons m)) → Worked version cons n (expansion_by (λ m. expansion_within k version cons m) version cons n x)
-    by (work.Closed i) r more = record { follows = follow-bare version cons n (outcome.Close i) (and_from _ _ (and_from (has n.eqs i) _ r.0 r.1) refl); smaller = tt; total = (let s = size-some n in omega (arith, s, enough)) }
-    by (work.Clashed i j) r more = record { follows = follow-bare version cons n (outcome.Clash i j) (and_from _ _ (and_from (has n.eqs i) _ r.0 (and_from (has n.nes j) _ r.1 r.2)) refl); smaller = tt; total = (let s = size-some n in omega (arith, s, enough)) }
+    by : (x : Next) → IsRight version n x → Works k version cons
+        → Worked version cons n (expansion_by (λ m. expansion_within k version cons m) version cons n x)
+    by (work.Closed i) r more =
+        record {
+          follows = follow-bare version cons n (outcome.Close i) (and_from _ _ (and_from (has n.eqs i) _ r.0 r.1) refl);
+          smaller = tt;
+          total = (let s = size-some n in omega (arith, s, enough));
+        }
+    by (work.Clashed i j) r more =
+        record {
+          follows = follow-bare version cons n (outcome.Clash i j) (and_from _ _ (and_from (has n.eqs i) _ r.0 (and_from (has n.nes j) _ r.1 r.2)) refl);
+          smaller = tt;
+          total = (let s = size-some n in omega (arith, s, enough));
+        }
     by work.Solved r more =
         let left = n.fuel - size_of n in
         let c = chain_of n.eqs cons left in
         record {
-          follows = follow-listing version cons n (outcome.System c.0 c.1) (and_from _ _ (and_from (is_triangular n.eqs n.nes) _ r (chain-fits (suc left) n.eqs 1 cons left (omega arith))) (listed-self n (outcome.System c.0 c.1)));
+          follows =
+              follow-listing version cons n (outcome.System c.0 c.1)
+              (and_from _ _ (and_from (is_triangular n.eqs n.nes) _ r (chain-fits (suc left) n.eqs 1 cons left (omega arith)))
+              (listed-self n (outcome.System c.0 c.1)));
           smaller = tt;
           total = (let s = size-some n in omega (arith, s, enough));
         }

@@ -1,5 +1,5 @@
 -- What the pieces of a tree cost, and that the fuel of the nodes pays for them.
-use Rattle.std.specs.Prelude.{◌≡◌, ℕ, ◌+◌, ◌≤◌, ◌<◌, List, [], ◌∷◌, length, IsTrue, ◌↔◌, Option, Some, None}
+use Rattle.std.specs.Prelude.{◌≡◌, ℕ, ◌+◌, ◌≤◌, ◌<◌, List, [], ◌∷◌, length, IsTrue, ◌↔◌, Some, None}
 use Rattle.poly_model.specs.Polynomial.{Polynomial}
 use Rattle.proof_steps.specs.Rules.{sizes, size_of, made, limit_of, reason_of}
 use Rattle.proof_steps.specs.Trees.{follow, is_tree_of, expansion_of}
@@ -78,9 +78,10 @@ abbrev pub FuelPays : Type 0
 FuelPays = (version : ℕ) (cons : List Polynomial) (n : Node) (p : Piece) (children : List Node) → size_of n ≤ n.fuel → follow version cons n p ≡ Some children
     → (piece_cost p + total_fuel children ≤ n.fuel) × HaveFuel children
 
--- And so the fuel of a problem pays for each valid tree of it.
+-- And so the fuel of a problem pays for each valid tree of it, and there are no more pieces than that.
 abbrev pub TreesArePaid : Type 0
-TreesArePaid = (version : ℕ) (problem : Problem) (fuel : ℕ) (ps : List Piece) → IsTrue (is_tree_of version problem fuel ps) → pieces_cost ps ≤ fuel
+TreesArePaid = (version : ℕ) (problem : Problem) (fuel : ℕ) (ps : List Piece) → IsTrue (is_tree_of version problem fuel ps)
+    → (length ps ≤ pieces_cost ps) × (pieces_cost ps ≤ fuel)
 
 -- A rule is stopped by the limit that it meets; else by want of fuel, where one of the nodes that it makes has less than
 -- its size; else by nothing.

@@ -1,3 +1,4 @@
 pub mod Due
 pub mod Growth
 pub mod Costs
+pub mod Ranges

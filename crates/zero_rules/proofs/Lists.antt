@@ -31,7 +31,8 @@ module _ {M : Type 0} (o : Operations M) where
   all-set (p ∷ E) zero q point z y = (y, z.1)
   all-set (p ∷ E) (suc f) q point z y = (z.0, all-set E f q point z.1 y)
 
-  pub all-unset : (E : List Polynomial) (f : ℕ) (q : Polynomial) (point : List M) → AllZero o (set E f q) point → value_at o (get_or E f []) point ≡ o.zero → AllZero o E point
+  pub all-unset : (E : List Polynomial) (f : ℕ) (q : Polynomial) (point : List M) → AllZero o (set E f q) point
+      → value_at o (get_or E f []) point ≡ o.zero → AllZero o E point
   all-unset [] f q point z y = tt
   all-unset (p ∷ E) zero q point z y = (y, z.1)
   all-unset (p ∷ E) (suc f) q point z y = (z.0, all-unset E f q point z.1 y)
@@ -77,7 +78,8 @@ module _ {M : Type 0} (o : Operations M) where
   all-without (p ∷ E) zero point z = z.1
   all-without (p ∷ E) (suc i) point z = (z.0, all-without E i point z.1)
 
-  pub all-with : (E : List Polynomial) (i : ℕ) (point : List M) → AllZero o (without_place E i) point → value_at o (get_or E i []) point ≡ o.zero → AllZero o E point
+  pub all-with : (E : List Polynomial) (i : ℕ) (point : List M) → AllZero o (without_place E i) point
+      → value_at o (get_or E i []) point ≡ o.zero → AllZero o E point
   all-with [] i point z y = tt
   all-with (p ∷ E) zero point z y = (y, z)
   all-with (p ∷ E) (suc i) point z y = (z.0, all-with E i point z.1 y)
@@ -88,8 +90,16 @@ module _ {M : Type 0} (o : Operations M) where
   all-before (p ∷ E) zero point z = tt
   all-before (p ∷ E) (suc i) point z = (z.0, all-before E i point z.1)
 
--- a polynomial other than the one that is replaced stays
+-- where one polynomial is replaced, each other one stays
 pub member-set : (E : List Polynomial) (f : ℕ) (q p : Polynomial) → has_polynomial E p ≡ true → (p ≡ get_or E f [] → ⊥) → has_polynomial (set E f q) p ≡ true
 member-set [] f q p h n = cc
-member-set (r ∷ E) zero q p h n = elim (or_cases (same p r) (has_polynomial E p) h) [ inl s ↦ absurd (n (same-is p r s)) | inr m ↦ or_right (same p q) (has_polynomial E p) m ]
-member-set (r ∷ E) (suc f) q p h n = elim (or_cases (same p r) (has_polynomial E p) h) [ inl s ↦ or_left (same p r) _ s | inr m ↦ or_right (same p r) _ (member-set E f q p m n) ]
+member-set (r ∷ E) zero q p h n =
+    elim (or_cases (same p r) (has_polynomial E p) h) [
+      | inl s ↦ absurd (n (same-is p r s))
+      | inr m ↦ or_right (same p q) (has_polynomial E p) m
+    ]
+member-set (r ∷ E) (suc f) q p h n =
+    elim (or_cases (same p r) (has_polynomial E p) h) [
+      | inl s ↦ or_left (same p r) _ s
+      | inr m ↦ or_right (same p r) _ (member-set E f q p m n)
+    ]

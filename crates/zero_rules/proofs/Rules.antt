@@ -1,5 +1,5 @@
 -- Each rule keeps the zeros, and a closed or clashing node has none.
-use Rattle.std.proofs.Common.{◌≡◌, ◌≢◌, ℕ, ◌-◌, ◌<◌, List, [], ◌∷◌, length, set, take, sym, ◌∙◌, ap, arith, true, ◌&&◌, not, inl, inr, ◌⊎◌, ◌↔◌}
+use Rattle.std.proofs.Common.{◌≡◌, ◌≢◌, ℕ, ◌-◌, ◌<◌, List, [], ◌∷◌, length, get_or, set, take, sym, ◌∙◌, ap, arith, true, ◌&&◌, not, inl, inr, ◌⊎◌, ◌↔◌}
 use Rattle.std.specs.Prelude.{◌==◌, nat_lt, nat_le}
 use Rattle.std.proofs.lemmas.Bool.{and_parts, or_cases, eqb-false, ltb-true, leb-true, not-true}
 use Rattle.std.proofs.lemmas.List.{get_or-set_other}
@@ -45,7 +45,8 @@ module _ {M : Type 0} {o : Operations M} (L : IsDomain o) where
   v = value_at o
 
   -- a known initial is not zero at a zero of the conditions
-  pub known-not_zero : (N : List Polynomial) (f : Polynomial) (point : List M) → NoneZero o N point → has_known_initial N f ≡ true → v (initial_of f) point ≢ o.zero
+  pub known-not_zero : (N : List Polynomial) (f : Polynomial) (point : List M) → NoneZero o N point → has_known_initial N f ≡ true
+      → v (initial_of f) point ≢ o.zero
   known-not_zero N f point z h e =
       let J0 : v (primitive_initial f) point ≡ o.zero = (contents.primitive_part-zero L (initial_of f) point).0 e in
       elim (or_cases (is_nonzero_constant (primitive_initial f)) _ h) [
@@ -70,22 +71,24 @@ module _ {M : Type 0} {o : Operations M} (L : IsDomain o) where
   pub red_keeps : RedKeeps o
   red_keeps version n g f h point =
       let E = n.eqs in
+      let G = item E g in
+      let F = item E f in
       let a = and_parts (has E g && (has E f && not (g == f))) _ h in
       let b = and_parts (has E g) _ a.0 in
       let c = and_parts (has E f) _ b.1 in
-      let d = and_parts (not (is_constant (item E f))) _ a.1 in
-      let known = (and_parts (has_known_initial n.nes (item E f)) _ d.1).0 in
+      let known = (and_parts (has_known_initial n.nes F) _ (and_parts (not (is_constant F)) _ a.1).1).0 in
       let apart = places-apart E g f b.0 c.0 c.1 in
-      let r = (reduction_of (item E g) (item E f)).1 in (
-        λ z. (
-          lists.all-set o E (g - 1) r point z.0
-              ((reduction-zeros L (item E g) (item E f) point (lists.all-get o E (f - 1) point z.0) (known-not_zero n.nes (item E f) point z.1 known)).0 (lists.all-get o E (g - 1) point z.0)),
-          z.1,
-        ),
+      let r = (reduction_of G F).1 in (
         λ z.
-            let F0 : v (item E f) point ≡ o.zero = ap (λ p. v p point) (sym (get_or-set_other E (g - 1) (f - 1) r [] apart)) ∙ lists.all-get o (set E (g - 1) r) (f - 1) point z.0 in
+            let F0 = lists.all-get o E (f - 1) point z.0 in
+            let law = reduction-zeros L G F point F0 (known-not_zero n.nes F point z.1 known) in
+            (lists.all-set o E (g - 1) r point z.0 (law.0 (lists.all-get o E (g - 1) point z.0)), z.1),
+        λ z.
+            let stays : get_or (set E (g - 1) r) (f - 1) [] ≡ F = get_or-set_other E (g - 1) (f - 1) r [] apart in
+            let F0 : v F point ≡ o.zero = ap (λ p. v p point) (sym stays) ∙ lists.all-get o (set E (g - 1) r) (f - 1) point z.0 in
+            let law = reduction-zeros L G F point F0 (known-not_zero n.nes F point z.1 known) in
             let R0 = lists.all-of_set o E (g - 1) r point (place-within E g b.0) z.0 in
-            (lists.all-unset o E (g - 1) r point z.0 ((reduction-zeros L (item E g) (item E f) point F0 (known-not_zero n.nes (item E f) point z.1 known)).1 R0), z.1),
+            (lists.all-unset o E (g - 1) r point z.0 (law.1 R0), z.1),
       )
 
   -- where the initial is zero, f is zero exactly if its tail is
@@ -100,20 +103,18 @@ module _ {M : Type 0} {o : Operations M} (L : IsDomain o) where
   tail_keeps version n f h point =
       let E = n.eqs in
       let F = item E f in
+      let J = primitive_initial F in
+      let T = primitive_tail F in
       let a = and_parts (has E f) _ h in
       let b = and_parts (not (is_constant F)) _ a.1 in
       let other = initial-other F (eqb-false _ _ (not-true _ b.0)) in (
-        λ z. (
-          lists.all-set o E (f - 1) (primitive_tail F) point z.0
-              ((tail-zero F point (lists.all-member o E (primitive_initial F) point z.0 b.1)).0 (lists.all-get o E (f - 1) point z.0)),
-          z.1,
-        ),
         λ z.
-            let J0 = lists.all-member o (set E (f - 1) (primitive_tail F)) (primitive_initial F) point z.0 (lists.member-set E (f - 1) (primitive_tail F) (primitive_initial F) b.1 other) in (
-              lists.all-unset o E (f - 1) (primitive_tail F) point z.0
-                  ((tail-zero F point J0).1 (lists.all-of_set o E (f - 1) (primitive_tail F) point (place-within E f a.0) z.0)),
-              z.1,
-            ),
+            let law = tail-zero F point (lists.all-member o E J point z.0 b.1) in
+            (lists.all-set o E (f - 1) T point z.0 (law.0 (lists.all-get o E (f - 1) point z.0)), z.1),
+        λ z.
+            let law = tail-zero F point (lists.all-member o (set E (f - 1) T) J point z.0 (lists.member-set E (f - 1) T J b.1 other)) in
+            let T0 = lists.all-of_set o E (f - 1) T point (place-within E f a.0) z.0 in
+            (lists.all-unset o E (f - 1) T point z.0 (law.1 T0), z.1),
       )
 
   pub split_keeps : ZeroOrNot o → SplitKeeps o
@@ -122,21 +123,22 @@ module _ {M : Type 0} {o : Operations M} (L : IsDomain o) where
       let F = item E f in
       let J = primitive_initial F in
       let T = primitive_tail F in
+      let cut_equations = set E (f - 1) T in
       let a = and_parts (has E f) _ h in (
         λ z. elim (zero_or_not (v J point)) [
           | inr not_zero ↦ inl (z.0, lists.none-append o n.nes (J ∷ []) point z.1 (not_zero, tt))
-          | inl J0 ↦ inr (inl (
-            lists.all-append o (set E (f - 1) T) (J ∷ []) point (lists.all-set o E (f - 1) T point z.0 ((tail-zero F point J0).0 (lists.all-get o E (f - 1) point z.0))) (J0, tt),
-            z.1,
-          ))
+          | inl J0 ↦
+              let T0 = (tail-zero F point J0).0 (lists.all-get o E (f - 1) point z.0) in
+              inr (inl (lists.all-append o cut_equations (J ∷ []) point (lists.all-set o E (f - 1) T point z.0 T0) (J0, tt), z.1))
         ],
         λ z. elim z [
           | inl y ↦ (y.0, lists.none-front o n.nes (J ∷ []) point y.1)
           | inr (inr w) ↦ absurd w
           | inr (inl y) ↦
-              let J0 = (lists.all-back o (set E (f - 1) T) (J ∷ []) point y.0).0 in
-              let E0 = lists.all-front o (set E (f - 1) T) (J ∷ []) point y.0 in
-              (lists.all-unset o E (f - 1) T point E0 ((tail-zero F point J0).1 (lists.all-of_set o E (f - 1) T point (place-within E f a.0) E0)), y.1)
+              let J0 = (lists.all-back o cut_equations (J ∷ []) point y.0).0 in
+              let E0 = lists.all-front o cut_equations (J ∷ []) point y.0 in
+              let T0 = lists.all-of_set o E (f - 1) T point (place-within E f a.0) E0 in
+              (lists.all-unset o E (f - 1) T point E0 ((tail-zero F point J0).1 T0), y.1)
         ],
       )
 

@@ -1,5 +1,8 @@
 use Rattle.std.proofs.Common.{◌+◌, ◌-◌, [], ◌∷◌, arith, map, refl, sym, ◌∙◌, ap, subst, true}
+use Rattle.std.specs.Prelude.{All}
 use Rattle.std.specs.List.{list_all}
+use Rattle.std.proofs.lemmas.List.Elements.{All-push}
+use Rattle.proof_steps.specs.Stated.{IsStated}
 use Rattle.std.proofs.lemmas.List.Folds.{list_all-append}
 use Rattle.std.proofs.lemmas.List.{map_push}
 use Rattle.std.proofs.lemmas.Result.{err_from_is_err_and}
@@ -37,6 +40,7 @@ loop-prove-preserved c =
           ∙ proves.problems-more acts k n (map equations front) (equations problem) (problems_from acts 0 n) (omega arith) c.in_ok-system_of.ensures.value c.loop-prove.invariant.value;
       own = ap (list_all is_own) grown ∙ list_all-append is_own front (problem ∷ [])
           ∙ both_true c.loop-prove.invariant.own (both_true c.in_ok-system_of.ensures.own refl);
+      stated = subst (All IsStated) (sym grown) (All-push IsStated front problem c.loop-prove.invariant.stated c.in_ok-system_of.ensures.stated);
     }
 
 pub returns-clause-value : goal.returns-clause-value

@@ -1,5 +1,7 @@
 use Rattle.std.proofs.Common.{◌≡◌, ◌≤◌, ◌-◌, map, IsTrue}
+use Rattle.std.specs.Prelude.{All}
 use Rattle.std.specs.List.{list_all}
+use Rattle.proof_steps.specs.Stated.{IsStated}
 use Rattle.algebraize.specs.Formed.{equations, is_own}
 use Rattle.algebraize.specs.Problem.{problems_from}
 use Rattle.algebraize.proofs.Proves.{behind}
@@ -10,6 +12,7 @@ invariant-loop-prove l = record {
   within : l.prove ≤ l.program.proves;
   value : behind (map equations l.problems.items) (problems_from l.program.acts l.prove (l.program.proves - l.prove)) ≡ problems_from l.program.acts 0 l.program.proves;
   own : IsTrue (list_all is_own l.problems.items);
+  stated : All IsStated l.problems.items;
 }
 
 abbrev pub decreases-loop-prove : goal.decreases-loop-prove

@@ -3,6 +3,7 @@ use Rattle.poly_model.specs.Polynomial.{is_over}
 use Rattle.std.specs.List.{list_all}
 use Rattle.std.specs.Cmp.Derive.{both_true}
 use Rattle.algebraize.proofs.Over as over
+use Rattle.algebraize.proofs.Stated.{stated_problem}
 use Rattle.algebraize.proofs.Proves as proves
 use Rattle.gcl_names.specs.Sound.{nothing, Counts, after_all}
 use Rattle.gcl_names.specs.declared.program.Act.{Act}
@@ -62,7 +63,7 @@ returns-clause-value g c =
     subst (λ r. Gives equations c.problem_at.result r)
     (ap (problem_at before act s) c.as_slice.ensures ∙ sym (proves.between before slice i act s ps below c.index-acts-place.is c.in-Prove.is)
     ∙ ap (λ k. problem_between (take k slice) (drop k slice)) there ∙ ap (λ l. problem_of l c.args.prove) c.as_slice-acts.ensures)
-    c.problem_at.ensures
+    c.problem_at.ensures.value
 
 pub returns-clause-mean : goal.returns-clause-mean
 returns-clause-mean g c =
@@ -75,7 +76,7 @@ returns-clause-mean g c =
     let s = c.in-Prove.statement in
     let ps = c.in-Prove.points in
     let o = g.D.Domain.operations in
-    proves.gives_ok c.problem_at.result (problem_at before act s c.as_slice.result.now) c.problem_at.ensures (λ p is.
+    proves.gives_ok c.problem_at.result (problem_at before act s c.as_slice.result.now) c.problem_at.ensures.value (λ p is.
     let h = proves.problem_at-ok before act s ps (equations p) (ap (problem_at before act s) (sym c.as_slice.ensures) ∙ is) in
     let m = subst (Mean o before s ps) (sym h.0) (equations_mean g.D.Domain.laws before s ps h.1) in
     let b = proves.mean_between o before slice i act s ps (equations p) below c.index-acts-place.is c.in-Prove.is m in
@@ -86,7 +87,16 @@ returns-clause-own g c =
     let before = take c.acts_before-place.result c.as_slice-acts.result.now in
     let s = c.in-Prove.statement in
     let ps = c.as_slice.result.now in
-    proves.gives_ok c.problem_at.result (problem_at before c.index-acts-place.result s ps) c.problem_at.ensures (λ p is.
+    proves.gives_ok c.problem_at.result (problem_at before c.index-acts-place.result s ps) c.problem_at.ensures.value (λ p is.
     let h = proves.problem_at-ok before c.index-acts-place.result s ps (equations p) is in
     subst (λ (e : Equations). IsTrue (list_all (is_over (length e.variables)) e.hypotheses && list_all (is_over (length e.variables)) e.conclusions)) (sym h.0)
     (both_true (over.over_hypotheses before) (over.over_conclusions before s ps)))
+
+pub returns-clause-stated : goal.returns-clause-stated
+returns-clause-stated g c =
+    let before = take c.acts_before-place.result c.as_slice-acts.result.now in
+    let s = c.in-Prove.statement in
+    let ps = c.as_slice.result.now in
+    proves.gives_ok_with c.problem_at.result (problem_at before c.index-acts-place.result s ps) c.problem_at.ensures.value c.problem_at.ensures.within (λ p is within.
+    let h = proves.problem_at-ok before c.index-acts-place.result s ps (equations p) is in
+    stated_problem before s ps p h.0 h.1 within)

@@ -1,0 +1,6 @@
+//! What a valid tree assures over every domain, whoever wrote it.
+#![tactic(auto)]
+
+mod laws;
+
+pub use laws::{trees_cover, trees_keep_to_their_variables, verdicts_hold};

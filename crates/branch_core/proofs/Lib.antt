@@ -1,0 +1,9 @@
+pub mod Replays
+pub mod Rooms
+pub mod Idles
+pub mod Always
+pub mod Moves
+pub mod Conserved
+pub mod Once
+pub mod Unique
+pub mod Completed

@@ -1,0 +1,3 @@
+pub mod Deques
+pub mod Views
+pub mod Children

@@ -1,0 +1,10 @@
+-- Plain facts of lists.
+use Rattle.std.proofs.Common.{◌≡◌, ◌≢◌, List, [], ◌∷◌, length, true, false, ◌==◌, refl, sym, ◌∙◌, ap, arith}
+use Rattle.std.proofs.lemmas.Bool.{eqb-true}
+
+pub none_left : {X : Type 0} (xs : List X) → (length xs == 0) ≡ true → xs ≡ []
+none_left [] e = refl
+none_left (x ∷ xs) e = absurd (let h = eqb-true (length (x ∷ xs)) 0 e in omega (arith, h))
+
+pub some_left : {X : Type 0} (xs : List X) → (length xs == 0) ≡ false → xs ≢ []
+some_left xs e h = let g : true ≡ false = sym (ap (λ l. length l == 0) h) ∙ e in cc

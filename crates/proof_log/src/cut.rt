@@ -1,0 +1,19 @@
+ghost use Rattle.std.specs.Prelude.{◌≡◌, ◌++◌, length, not, ◌==◌};
+ghost use Rattle.std.specs.List.{take_while};
+ghost use Rattle.proof_log.specs.Cuts.{Avoids, EndsAt};
+
+/// The length of what stands before the first such byte.
+fn front_len(byte: u8, text: &[u8]) -> usize
+    ensures { result ≡ length (take_while (λ b. not (b == byte)) text.now) }
+{
+    text.iter().take_while(|b| **b != byte).count()
+}
+
+/// The text up to the first such byte, and the text from there on.
+pub fn cut(byte: u8, text: &[u8]) -> (&[u8], &[u8])
+    ensures parts { text.now ≡ result.0.now ++ result.1.now }
+    ensures front { Avoids byte result.0.now }
+    ensures behind { EndsAt byte result.1.now }
+{
+    text.split_at(front_len(byte, text))
+}

@@ -1,0 +1,5 @@
+pub mod Posed
+pub mod Lines
+pub mod Told
+pub mod Written
+pub mod Logs

@@ -1,0 +1,32 @@
+-- The log of problems, and of a program.
+use Rattle.std.specs.Prelude.{ℕ, ◌/◌, List, map, length, Result, Ok}
+use Rattle.poly_model.specs.declared.limits.TheConstants.{MOST_FUEL}
+use Rattle.proof_steps.specs.Trees.{tree_of}
+use Rattle.proof_steps.specs.declared.problem.Problem.{Problem}
+use Rattle.verdicts.specs.Verdicts.{verdict_of}
+use Rattle.proof_log.specs.declared.limits.TheConstants.{VERSION}
+use Rattle.proof_log.specs.declared.log.Proof.{Proof}
+use Rattle.gcl_reader.specs.Grammar.{◌>>=◌}
+use Rattle.gcl_reader.specs.declared.refusal.Refusal.{Refusal}
+use Rattle.gcl_names.specs.declared.program.Act.{Act}
+use Rattle.algebraize.specs.Equations.{Equations}
+use Rattle.algebraize.specs.Problem.{problems_of}
+
+-- A problem with the tree that the order of work gives, and the verdict of that.
+abbrev pub proof_of : (version fuel : ℕ) → Problem → Proof
+proof_of version fuel problem =
+    record { problem = problem; tree = record { pieces = tree_of version problem fuel }; verdict = verdict_of (tree_of version problem fuel) }
+
+-- The log of problems: each proof has an equal share of the fuel.
+abbrev pub log_of : (version : ℕ) → List Problem → List Proof
+log_of version problems = map (proof_of version (MOST_FUEL / length problems)) problems
+
+-- The problem of the equations of a prove.
+abbrev pub problem_of : Equations → Problem
+problem_of e = record { vars = e.variables; hyps = e.hypotheses; cons = e.conclusions }
+
+-- The log of a program: that of the problems of its proves, or the refusal of the first that has too many variables.
+abbrev pub log_of_program : List Act → Result (List Proof) Refusal
+log_of_program acts = do
+  equations ← problems_of acts
+  Ok (log_of VERSION (map problem_of equations))

@@ -1,0 +1,4 @@
+pub mod Counted
+pub mod Reducing
+pub mod Chained
+pub mod Beside

@@ -1,0 +1,182 @@
+-- What is searched by numbers is what is searched by polynomials.
+use Rattle.std.proofs.Common.{◌≡◌, ℕ, ◌+◌, ◌-◌, ◌<◌, ◌≤◌, max, zero, suc, List, [], ◌∷◌, length, map, take, get_or, refl, sym, ◌∙◌, ap, arith, Bool, true, false, ◌&&◌, ◌||◌, not}
+use Rattle.std.specs.Prelude.{◌==◌, Option, Some, None, unwrap_or, nat_lt, if◌then◌else◌, count_by}
+use Rattle.std.specs.List.{list_all}
+use Rattle.std.proofs.lemmas.List.Sums.{sum_by-cons}
+use Rattle.std.proofs.lemmas.List.{length-map, take-map}
+use Rattle.std.proofs.lemmas.Bool.{and_from, eq-eqb, ne_eqb, lt-ltb, le-leb}
+use Rattle.poly_model.proofs.Within.{within-of}
+use Rattle.poly_model.specs.declared.limits.TheConstants.{MOST_VARIABLES}
+use Rattle.poly_model.proofs.Front.{zero-empty}
+use Rattle.proof_steps.specs.declared.step.Attempt.TheVariants as attempt
+use Rattle.poly_model.specs.Equality.{same-is}
+use Rattle.workbench.proofs.Tests.{number-is}
+use Rattle.poly_model.specs.Polynomial.{Polynomial}
+use Rattle.proof_steps.specs.Numbers.{item, has, first, first_from, greatest}
+use Rattle.poly_model.specs.Reduction.{same, has_polynomial, is_zero, is_nonzero_constant, is_constant, class_of, main_degree}
+use Rattle.proof_steps.specs.Rules.{has_known_initial, is_settled, is_valid}
+use Rattle.proof_steps.specs.Work as work
+use Rattle.proof_steps.specs.Work.{unsettled_class, is_less, is_least, least, other}
+use Rattle.proof_steps.specs.declared.piece.Node.{Node}
+use Rattle.workbench.specs.Standing.{Tells, AllTell, AreFound}
+use Rattle.term_store.specs.States.{State}
+use Rattle.workbench.specs.Searches.{count_in, all_known_in, settled_in, greatest_in, open_class, unsettled_in, is_less_than, none_less_in, is_least_of, place_of, least_in, other_in, number_in, meets, among_in, dropped_in, clashed_in, place_at}
+use Rattle.workbench.specs.declared.bench.Held.{Held}
+
+count-tied : (N : List Polynomial) (hs : List Held) (E : List Polynomial) (x : ℕ) → AllTell N hs E → count_in hs x ≡ count_by (λ p. class_of p == x) E
+count-tied N [] [] x t = refl
+count-tied N [] (p ∷ E) x t = absurd t
+count-tied N (h ∷ hs) [] x t = absurd t
+count-tied N (h ∷ hs) (p ∷ E) x t =
+    (λ i. (if t.0.class i == x then 1 else 0) + count-tied N hs E x t.1 i) ∙ sym (sum_by-cons (λ q. if class_of q == x then 1 else 0) p E)
+
+known-tied : (N : List Polynomial) (hs : List Held) (E : List Polynomial) (x : ℕ) → AllTell N hs E → all_known_in hs x ≡ list_all (λ p. not (class_of p == x) || has_known_initial N p) E
+known-tied N [] [] x t = refl
+known-tied N [] (p ∷ E) x t = absurd t
+known-tied N (h ∷ hs) [] x t = absurd t
+known-tied N (h ∷ hs) (p ∷ E) x t = λ i. (not (t.0.class i == x) || t.0.known i) && known-tied N hs E x t.1 i
+
+pub settled-tied : (N : List Polynomial) (hs : List Held) (E : List Polynomial) (x : ℕ) → AllTell N hs E → settled_in hs x ≡ is_settled E N x
+settled-tied N hs E x t = λ i. (count-tied N hs E x t i == 1) && known-tied N hs E x t i
+
+pub greatest-tied : (N : List Polynomial) (f : Held → ℕ) (g : Polynomial → ℕ) (hs : List Held) (E : List Polynomial) → ((h : Held) (p : Polynomial) → Tells N h p → f h ≡ g p) → AllTell N hs E → greatest_in f hs ≡ greatest g E
+greatest-tied N f g [] [] e t = refl
+greatest-tied N f g [] (p ∷ E) e t = absurd t
+greatest-tied N f g (h ∷ hs) [] e t = absurd t
+greatest-tied N f g (h ∷ hs) (p ∷ E) e t = λ i. max (e h p t.0 i) (greatest-tied N f g hs E e t.1 i)
+
+pub unsettled-tied : (n : Node) (hs : List Held) → AllTell n.nes hs n.eqs → unsettled_in hs ≡ unsettled_class n
+unsettled-tied n hs t =
+    greatest-tied n.nes (open_class hs) _ hs n.eqs (λ h p u. (λ i. if settled_in hs (u.class i) then 0 else u.class i) ∙ ap (λ b. if b then 0 else class_of p) (settled-tied n.nes hs n.eqs (class_of p) t)) t
+
+less-tied : (N : List Polynomial) (q h : Held) (r p : Polynomial) → Tells N q r → Tells N h p → is_less_than q h ≡ is_less r p
+less-tied N q h r p u v = λ i. nat_lt (u.degree i) (v.degree i) || ((u.degree i == v.degree i) && nat_lt (u.terms i) (v.terms i))
+
+none-tied : (N : List Polynomial) (hs : List Held) (E : List Polynomial) (x : ℕ) (h : Held) (p : Polynomial) → AllTell N hs E → Tells N h p → none_less_in hs x h ≡ list_all (λ q. not (class_of q == x && is_less q p)) E
+none-tied N [] [] x h p t v = refl
+none-tied N [] (r ∷ E) x h p t v = absurd t
+none-tied N (q ∷ hs) [] x h p t v = absurd t
+none-tied N (q ∷ hs) (r ∷ E) x h p t v = λ i. not ((t.0.class i == x) && less-tied N q h r p t.0 v i) && none-tied N hs E x h p t.1 v i
+
+-- ---- the first that passes
+abbrev pub some_place : ℕ → Option ℕ
+some_place zero = None
+some_place (suc k) = Some (suc k)
+
+pub found : (f : Held → Polynomial) (N : List Polynomial) (T : ℕ → Polynomial → Bool) (t : ℕ → Held → Bool) (E0 : List Polynomial) (hs : List Held) (k : ℕ) → AllTell N hs (map f hs)
+    → ((j : ℕ) (h : Held) → suc k ≤ j → j < suc k + length hs → Tells N h (f h) → T j (f h) ≡ t j h) → ((i : ℕ) → i < length hs → item E0 (suc k + i) ≡ get_or (map f hs) i [])
+    → first_from (λ i. T i (item E0 i)) (length (map f hs)) (suc k) ≡ some_place (place_of t (suc k) hs)
+found f N T t E0 [] k a e at = refl
+found f N T t E0 (h ∷ hs) k a e at =
+    ap (λ b. elim b as (λ _. Option ℕ) [ true ↦ Some (suc k) | false ↦ first_from (λ i. T i (item E0 i)) (length (map f hs)) (suc (suc k)) ])
+    (ap (T (suc k)) (ap (item E0) (let q : suc k ≡ suc k + 0 = omega arith in q) ∙ at 0 (omega arith)) ∙ e (suc k) h (omega arith) (omega arith) a.0)
+    ∙ by (t (suc k) h)
+    (found f N T t E0 hs (suc k) a.1 (λ j x low high. e j x (omega arith) (omega arith)) (λ i low. ap (item E0) (let q : suc (suc k) + i ≡ suc k + suc i = omega arith in q) ∙ at (suc i) (omega arith)))
+  where
+    by : (b : Bool) → first_from (λ i. T i (item E0 i)) (length (map f hs)) (suc (suc k)) ≡ some_place (place_of t (suc (suc k)) hs)
+        → (elim b as (λ _. Option ℕ) [ true ↦ Some (suc k) | false ↦ first_from (λ i. T i (item E0 i)) (length (map f hs)) (suc (suc k)) ]) ≡ some_place (if b then suc k else place_of t (suc (suc k)) hs)
+    by true rest = refl
+    by false rest = rest
+
+pub item-next : (E : List Polynomial) (i : ℕ) → item E (1 + i) ≡ get_or E i []
+item-next E i = ap (λ k. get_or E k []) (let e : 1 + i - 1 ≡ i = omega arith in e)
+
+pub some-is : (k : ℕ) → unwrap_or (some_place k) 0 ≡ k
+some-is zero = refl
+some-is (suc k) = refl
+
+pub least-tied : (f : Held → Polynomial) (N : List Polynomial) (hs : List Held) (x : ℕ) → AllTell N hs (map f hs) → least (map f hs) x ≡ least_in hs x
+least-tied f N hs x t =
+    ap (λ o. unwrap_or o 0) (found f N (λ i p. class_of p == x && list_all (λ q. not (class_of q == x && is_less q p)) (map f hs)) (λ k h. is_least_of hs x h) (map f hs) hs 0 t
+    (λ j h _ _ u. sym (λ i. (u.class i == x) && none-tied N hs (map f hs) x h (f h) t u i)) (λ i low. item-next (map f hs) i)) ∙ some-is _
+
+pub other-tied : (f : Held → Polynomial) (N : List Polynomial) (hs : List Held) (x g : ℕ) → AllTell N hs (map f hs) → other (map f hs) x g ≡ other_in hs x g
+other-tied f N hs x g t =
+    ap (λ o. unwrap_or o 0) (found f N (λ i p. class_of p == x && not (i == g)) (λ k h. h.class == x && not (k == g)) (map f hs) hs 0 t
+    (λ j h _ _ u. sym (λ i. (u.class i == x) && not (j == g))) (λ i low. item-next (map f hs) i)) ∙ some-is _
+
+-- ---- numbers and zeros
+suc-zero : (n : ℕ) → (suc n == 0) ≡ false
+suc-zero n = ne_eqb (suc n) 0 (λ e. omega (arith, e))
+
+number-told : (N : List Polynomial) (h : Held) (p : Polynomial) → Tells N h p → is_nonzero_constant p ≡ ((h.class == 0) && not (h.terms == 0))
+number-told N h [] u = λ i. (sym u.class i == 0) && not (sym u.terms i == 0)
+number-told N h (e ∷ p) u =
+    sym (number-is (e ∷ p) u.standard (omega arith)) ∙ (λ i. sym u.class i == 0)
+    ∙ and-true (h.class == 0) ∙ ap (λ b. (h.class == 0) && not b) (sym (suc-zero (length p))) ∙ ap (λ n. (h.class == 0) && not (n == 0)) (sym u.terms)
+  where
+    and-true : (b : Bool) → b ≡ (b && true)
+    and-true true = refl
+    and-true false = refl
+
+zero-told : (N : List Polynomial) (h : Held) (p : Polynomial) → Tells N h p → is_zero p ≡ (h.terms == 0)
+zero-told N h [] u = ap (λ n. n == 0) (sym u.terms)
+zero-told N h (e ∷ p) u =
+    elim (is_zero (e ∷ p)) as (λ b. is_zero (e ∷ p) ≡ b → b ≡ false) [
+      | true ↦ λ z. absurd (let n : length (e ∷ p) ≡ 0 = ap length (zero-empty MOST_VARIABLES (e ∷ p) (within-of (e ∷ p) u.standard).descending z) in omega (arith, n))
+      | false ↦ λ z. refl
+    ] refl
+    ∙ sym (suc-zero (length p)) ∙ ap (λ n. n == 0) (sym u.terms)
+
+pub number-tied : (f : Held → Polynomial) (N : List Polynomial) (hs : List Held) → AllTell N hs (map f hs) → first (λ i. is_nonzero_constant (item (map f hs) i)) (length (map f hs)) ≡ some_place (number_in hs)
+number-tied f N hs t =
+    found f N (λ i p. is_nonzero_constant p) (λ k h. (h.class == 0) && not (h.terms == 0)) (map f hs) hs 0 t (λ j h _ _ u. number-told N h (f h) u) (λ i low. item-next (map f hs) i)
+
+-- ---- equal equations
+meets-same : (N : List Polynomial) (q h : Held) (r p : Polynomial) → Tells N q r → Tells N h p → same p r ≡ (meets q h && same p r)
+meets-same N q h r p u v =
+    elim (same p r) as (λ b. same p r ≡ b → b ≡ (meets q h && b)) [
+      | false ↦ λ e. and-false (meets q h)
+      | true ↦ λ e.
+          let is = same-is p r e in
+          ap (λ b. b && true) (sym (and_from ((q.class == h.class) && (q.degree == h.degree)) _ (and_from (q.class == h.class) _ (eq-eqb _ _ (u.class ∙ ap class_of (sym is) ∙ sym v.class)) (eq-eqb _ _ (u.degree ∙ ap main_degree (sym is) ∙ sym v.degree)))
+          (eq-eqb _ _ (u.terms ∙ ap length (sym is) ∙ sym v.terms))))
+    ] refl
+  where
+    and-false : (b : Bool) → false ≡ (b && false)
+    and-false true = refl
+    and-false false = refl
+
+among-tied : (f : Held → Polynomial) (N : List Polynomial) (hs : List Held) (h : Held) → AllTell N hs (map f hs) → Tells N h (f h) → has_polynomial (map f hs) (f h) ≡ among_in f hs h
+among-tied f N [] h t u = refl
+among-tied f N (q ∷ hs) h t u = λ i. meets-same N q h (f q) (f h) t.0 u i || among-tied f N hs h t.1 u i
+
+tell-take : (f : Held → Polynomial) (N : List Polynomial) (n : ℕ) (hs : List Held) → AllTell N hs (map f hs) → AllTell N (take n hs) (map f (take n hs))
+tell-take f N zero hs t = tt
+tell-take f N (suc n) [] t = tt
+tell-take f N (suc n) (h ∷ hs) t = (t.0, tell-take f N n hs t.1)
+
+pub drop-tied : (f : Held → Polynomial) (n : Node) (hs : List Held) → n.eqs ≡ map f hs → AllTell n.nes hs (map f hs) → first (λ i. is_valid 1 n (attempt.Drop i)) (length n.eqs) ≡ some_place (dropped_in f hs)
+drop-tied f n hs is t =
+    (λ i. first (λ j. has (is i) j && (is_zero (item (is i) j) || has_polynomial (take (j - 1) (is i)) (item (is i) j))) (length (is i)))
+    ∙ found f n.nes (λ j p. has (map f hs) j && (is_zero p || has_polynomial (take (j - 1) (map f hs)) p)) (λ k h. (h.terms == 0) || among_in f (take (k - 1) hs) h) (map f hs) hs 0 t
+    (λ j h low high u.
+    let there : has (map f hs) j ≡ true = and_from (nat_lt 0 j) _ (lt-ltb 0 j (omega (arith, low))) (le-leb j _ (let l = length-map hs f in omega (arith, high, l))) in
+    let before : has_polynomial (take (j - 1) (map f hs)) (f h) ≡ among_in f (take (j - 1) hs) h =
+    ap (λ l. has_polynomial l (f h)) (take-map f (j - 1) hs) ∙ among-tied f n.nes (take (j - 1) hs) h (tell-take f n.nes (j - 1) hs t) u in
+    λ i. there i && (zero-told n.nes h (f h) u i || before i))
+    (λ i low. item-next (map f hs) i)
+
+pub found-take : (s : State) (n : ℕ) (hs : List Held) → AreFound s hs → AreFound s (take n hs)
+found-take s zero hs t = tt
+found-take s (suc n) [] t = tt
+found-take s (suc n) (h ∷ hs) t = (t.0, found-take s n hs t.1)
+
+-- ---- an equation that is a condition
+pub clash-tied : (f : Held → Polynomial) (N : List Polynomial) (hs : List Held) → AllTell N hs (map f hs) → first (λ i. has_polynomial N (item (map f hs) i)) (length (map f hs)) ≡ some_place (clashed_in f N hs)
+clash-tied f N hs t = found f N (λ i p. has_polynomial N p) (λ k h. has_polynomial N (f h)) (map f hs) hs 0 t (λ j h _ _ u. refl) (λ i low. item-next (map f hs) i)
+
+found-at : (t : Polynomial → Bool) (E0 E : List Polynomial) (k : ℕ) → ((i : ℕ) → i < length E → item E0 (suc k + i) ≡ get_or E i []) → first_from (λ i. t (item E0 i)) (length E) (suc k) ≡ some_place (place_at t (suc k) E)
+found-at t E0 [] k at = refl
+found-at t E0 (p ∷ E) k at =
+    ap (λ b. elim b as (λ _. Option ℕ) [ true ↦ Some (suc k) | false ↦ first_from (λ i. t (item E0 i)) (length E) (suc (suc k)) ])
+    (ap t (ap (item E0) (let q : suc k ≡ suc k + 0 = omega arith in q) ∙ at 0 (omega arith)))
+    ∙ by (t p) (found-at t E0 E (suc k) (λ i low. ap (item E0) (let q : suc (suc k) + i ≡ suc k + suc i = omega arith in q) ∙ at (suc i) (omega arith)))
+  where
+    by : (b : Bool) → first_from (λ i. t (item E0 i)) (length E) (suc (suc k)) ≡ some_place (place_at t (suc (suc k)) E)
+        → (elim b as (λ _. Option ℕ) [ true ↦ Some (suc k) | false ↦ first_from (λ i. t (item E0 i)) (length E) (suc (suc k)) ]) ≡ some_place (if b then suc k else place_at t (suc (suc k)) E)
+    by true rest = refl
+    by false rest = rest
+
+pub among-number : (N : List Polynomial) (p : Polynomial) → work.number_in N p ≡ place_at (λ q. same q p) 1 N
+among-number N p = ap (λ o. unwrap_or o 0) (found-at (λ q. same q p) N N 0 (λ i low. item-next N i)) ∙ some-is _

@@ -1,0 +1,88 @@
+use Rattle.std.proofs.Common.{◌≡◌, ◌<◌, ◌-◌, length, map, sym, subst, ap, arith, ◌∙◌}
+use Rattle.proof_steps.specs.Work.{Try, unsettled_class}
+use Rattle.poly_model.specs.Reduction.{same}
+use Rattle.polynomials.specs.Held.{polynomial_at}
+use Rattle.workbench.specs.Standing.{node_at, held_at, AreFound, AreHeld}
+use Rattle.workbench.specs.Searches as searches
+use Rattle.workbench.proofs.Benches as benches
+use Rattle.workbench.proofs.Tied as tied
+use Rattle.workbench.proofs.Choice as choice
+use Rattle.workbench.proofs.order.due.Goals as goal
+
+pub dropped-i-requires-clause-hs : goal.dropped-i-requires-clause-hs
+dropped-i-requires-clause-hs g c = subst (AreFound (g.S.TermStore.state c.args.s.now)) (sym c.deref.ensures.value) (choice.found-all _ _ _ c.args.bench.now c.requires.stands)
+
+pub clashed-i-requires-clause-hs : goal.clashed-i-requires-clause-hs
+clashed-i-requires-clause-hs g c = subst (AreFound (g.S.TermStore.state c.args.s.now)) (sym c.deref-3.ensures.value) (choice.found-all _ _ _ c.args.bench.now c.requires.stands)
+
+pub clashed-i-requires-clause-nes : goal.clashed-i-requires-clause-nes
+clashed-i-requires-clause-nes g c = subst (AreHeld (g.S.TermStore.state c.args.s.now)) (sym c.deref-4.ensures.value) (benches.conditions-held _ _ _ c.args.bench.now c.requires.stands)
+
+pub number_among-j-requires-clause-ps : goal.number_among-j-requires-clause-ps
+number_among-j-requires-clause-ps g c = subst (AreHeld (g.S.TermStore.state c.args.s.now)) (sym c.deref-then-i-ne0-3.ensures.value) (benches.conditions-held _ _ _ c.args.bench.now c.requires.stands)
+
+pub number_among-j-requires-clause-p : goal.number_among-j-requires-clause-p
+number_among-j-requires-clause-p g c =
+    let l = ap length c.deref-3.ensures.value in
+    let w = c.clashed-i.ensures.within in
+    let n = c.if-i-ne0-3.true in
+    benches.equation-poly _ _ _ c.args.bench.now _ c.index.result.now c.requires.stands (omega (arith, l, w, n)) c.index.ensures
+
+pub returns-then-i-ne0-clause-next : goal.returns-then-i-ne0-clause-next
+returns-then-i-ne0-clause-next g c =
+    let s = g.S.TermStore.state c.args.s.now in
+    let b = c.args.bench.now in
+    let d = c.dropped-i.ensures.place ∙ ap (searches.dropped_in (held_at s)) c.deref.ensures.value in
+    choice.due-drop s b c.dropped-i.result c.requires.stands.tell d c.if-i-ne0.true
+
+pub returns-then-i-ne0-2-clause-next : goal.returns-then-i-ne0-2-clause-next
+returns-then-i-ne0-2-clause-next g c =
+    let s = g.S.TermStore.state c.args.s.now in
+    let b = c.args.bench.now in
+    let d = c.dropped-i.ensures.place ∙ ap (searches.dropped_in (held_at s)) c.deref.ensures.value in
+    let n = c.number-i.ensures.place ∙ ap searches.number_in c.deref-2.ensures.value in
+    choice.due-close s b c.dropped-i.result c.number-i.result c.requires.stands.tell d c.if-i-ne0.false n c.if-i-ne0-2.true
+
+pub returns-then-i-ne0-3-clause-next : goal.returns-then-i-ne0-3-clause-next
+returns-then-i-ne0-3-clause-next g c =
+    let s = g.S.TermStore.state c.args.s.now in
+    let b = c.args.bench.now in
+    let d = c.dropped-i.ensures.place ∙ ap (searches.dropped_in (held_at s)) c.deref.ensures.value in
+    let n = c.number-i.ensures.place ∙ ap searches.number_in c.deref-2.ensures.value in
+    let q : c.clashed-i.result ≡ searches.clashed_in (held_at s) (node_at s b).nes b.eqs.items =
+    c.clashed-i.ensures.place ∙ (λ i. searches.clashed_in (held_at s) (map (polynomial_at s) (c.deref-4.ensures.value i)) (c.deref-3.ensures.value i)) in
+    let x = c.index.result.now in
+    let j : c.number_among-j.result ≡ searches.place_at (λ r. same r (held_at s x)) 1 (node_at s b).nes =
+    c.number_among-j.ensures.place ∙ ap (λ l. searches.place_at (λ r. same r (held_at s x)) 1 (map (polynomial_at s) l)) c.deref-then-i-ne0-3.ensures.value in
+    let below : c.clashed-i.result - 1 < length b.eqs.items = (let l = ap length c.deref-3.ensures.value in let w = c.clashed-i.ensures.within in let z = c.if-i-ne0-3.true in omega (arith, l, w, z)) in
+    choice.due-clash s b c.dropped-i.result c.number-i.result c.clashed-i.result c.number_among-j.result x c.requires.stands.tell d c.if-i-ne0.false n c.if-i-ne0-2.false q c.if-i-ne0-3.true below c.index.ensures j
+
+pub returns-then-x-eq0-clause-next : goal.returns-then-x-eq0-clause-next
+returns-then-x-eq0-clause-next g c =
+    let s = g.S.TermStore.state c.args.s.now in
+    let b = c.args.bench.now in
+    let d = c.dropped-i.ensures.place ∙ ap (searches.dropped_in (held_at s)) c.deref.ensures.value in
+    let n = c.number-i.ensures.place ∙ ap searches.number_in c.deref-2.ensures.value in
+    let q : c.clashed-i.result ≡ searches.clashed_in (held_at s) (node_at s b).nes b.eqs.items =
+    c.clashed-i.ensures.place ∙ (λ i. searches.clashed_in (held_at s) (map (polynomial_at s) (c.deref-4.ensures.value i)) (c.deref-3.ensures.value i)) in
+    let x : c.unsettled-x.result ≡ unsettled_class (node_at s b) = c.unsettled-x.ensures ∙ ap searches.unsettled_in c.deref-5.ensures.value ∙ tied.unsettled-tied (node_at s b) b.eqs.items c.requires.stands.tell in
+    choice.class-none (node_at s b) (sym x ∙ c.if-x-eq0.true)
+    ∙ choice.due-class s b c.dropped-i.result c.number-i.result c.clashed-i.result c.requires.stands.tell d c.if-i-ne0.false n c.if-i-ne0-2.false q c.if-i-ne0-3.false
+
+pub work_on-requires-clause-class : goal.work_on-requires-clause-class
+work_on-requires-clause-class g c =
+    let s = g.S.TermStore.state c.args.s.now in
+    let b = c.args.bench.now in
+    c.unsettled-x.ensures ∙ ap searches.unsettled_in c.deref-5.ensures.value ∙ tied.unsettled-tied (node_at s b) b.eqs.items c.requires.stands.tell
+
+pub returns-clause-next : goal.returns-clause-next
+returns-clause-next g c =
+    let s = g.S.TermStore.state c.args.s.now in
+    let b = c.args.bench.now in
+    let d = c.dropped-i.ensures.place ∙ ap (searches.dropped_in (held_at s)) c.deref.ensures.value in
+    let n = c.number-i.ensures.place ∙ ap searches.number_in c.deref-2.ensures.value in
+    let q : c.clashed-i.result ≡ searches.clashed_in (held_at s) (node_at s b).nes b.eqs.items =
+    c.clashed-i.ensures.place ∙ (λ i. searches.clashed_in (held_at s) (map (polynomial_at s) (c.deref-4.ensures.value i)) (c.deref-3.ensures.value i)) in
+    let x : c.unsettled-x.result ≡ unsettled_class (node_at s b) = c.unsettled-x.ensures ∙ ap searches.unsettled_in c.deref-5.ensures.value ∙ tied.unsettled-tied (node_at s b) b.eqs.items c.requires.stands.tell in
+    ap Try c.work_on.ensures.attempt ∙ choice.class-some (node_at s b) c.unsettled-x.result c.if-x-eq0.false x
+    ∙ choice.due-class s b c.dropped-i.result c.number-i.result c.clashed-i.result c.requires.stands.tell d c.if-i-ne0.false n c.if-i-ne0-2.false q c.if-i-ne0-3.false

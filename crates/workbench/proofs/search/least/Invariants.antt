@@ -1,0 +1,9 @@
+use Rattle.std.proofs.Common.{◌≡◌, ◌+◌, length}
+use Rattle.workbench.specs.Searches.{place_of, is_least_of}
+use Rattle.workbench.proofs.search.least.Given as goal
+
+abbrev pub invariant-loop-first : goal.invariant-loop-first
+invariant-loop-first l = record { found : place_of (λ k h. is_least_of l.hs l.x h) l.k l.rest ≡ place_of (λ k h. is_least_of l.hs l.x h) 1 l.hs; count : l.k + length l.rest ≡ 1 + length l.hs }
+
+abbrev pub decreases-loop-first : goal.decreases-loop-first
+decreases-loop-first l = length l.rest

@@ -1,0 +1,6 @@
+pub mod Owned
+pub mod Standing
+pub mod Searches
+pub mod Dues
+pub mod Taking
+pub mod Splitting

@@ -1,0 +1,24 @@
+//! One node of a proof, worked on with its polynomials in a store: what is known of each equation beside it, the rule that is
+//! due, and what the rules make of the node.
+#![tactic(auto)]
+
+mod bench;
+mod facts;
+mod lists;
+mod order;
+mod parts;
+mod repeats;
+mod search;
+mod splitting;
+mod steps;
+mod taken;
+mod taking;
+
+pub use bench::{Bench, Held};
+pub use facts::{all_held, is_known};
+pub use lists::{release, release_held, release_polys};
+pub use order::{Next, due};
+pub use parts::{class_number, give_up, term_count};
+pub use splitting::{Parting, copy_conditions, copy_equations, split};
+pub use taken::Taken;
+pub use taking::{cut, drop, reduce};
