@@ -5,3 +5,4 @@ pub mod Cuts
 pub mod Kinds
 pub mod Grammar
 pub mod Places
+pub mod Feeding

@@ -11,6 +11,7 @@ mod line;
 mod line_reading;
 mod log;
 mod place;
+mod reader;
 mod tail;
 mod told;
 mod words;
@@ -21,4 +22,4 @@ pub use limits::{MOST_INDEX, MOST_PROOFS, VERSION};
 pub use line::{LineWord, LogLine};
 pub use line_reading::read_line;
 pub use log::{Log, Proof};
-
+pub use reader::{LogFault, LogReader};
