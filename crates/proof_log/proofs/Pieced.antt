@@ -14,6 +14,7 @@ use Rattle.proof_log.specs.Places.{is_done, number}
 use Rattle.proof_log.specs.Text.{text_of}
 use Rattle.proof_log.proofs.Held.{begins_with, begins_more, refuses_more}
 use Rattle.proof_log.proofs.Logs.{front_is, whole_is, whole_done}
+use Rattle.proof_log.proofs.Plain.{none_of}
 use Rattle.proof_log.proofs.Steps.{same_part}
 
 pub record Sofar (old : LogReader) (old_lines : List LogLine) (piece rest : List ℕ) (r : LogReader) (lines : List LogLine) : Type 0 where
@@ -102,14 +103,10 @@ done_is p e = same_part part.Done p (let h : number p ≡ 11 = eqb-true (number 
 counted : (r : LogReader) → length r.held.items ≡ vec_len r.held
 counted r = let h = r.held.ok in omega (arith, h)
 
-none_held : (t : List ℕ) → length t ≡ 0 → t ≡ []
-none_held [] e = refl
-none_held (b ∷ t) e = absurd (omega (arith, e))
-
 pub ends_whole : (u : Unit {0}) (r : LogReader) (front : List LogLine) (bytes : List ℕ) → r.fault ≡ None → (vec_len r.held == 0) ≡ true → is_done r.place.part ≡ true → IsFed front r bytes → Whole front bytes
 ends_whole u r front bytes e none d f =
     let g = going r front bytes e f in
-    let empty = none_held r.held.items (counted r ∙ eqb-true (vec_len r.held) 0 none) in
+    let empty = none_of r.held.items (counted r ∙ eqb-true (vec_len r.held) 0 none) in
     record {
       lines = g.lines;
       whole = whole_is r.place front g.place (done_is r.place.part d);
@@ -143,3 +140,9 @@ pub count_more : (fed0 fed1 fed2 start piece : ℕ) (rest front behind after : L
 count_more fed0 fed1 fed2 start piece rest front behind after b e k f g h =
     let l = ap length e ∙ ap (λ t. length (front ++ t)) k ∙ length-append front (b ∷ after) in
     omega (arith, l, f, g, h)
+
+-- a line was held up to its end
+pub held_to_lf : (old r q : LogReader) (old_lines lines : List LogLine) (piece rest front behind after : List ℕ) (b : ℕ) → rest ≡ front ++ behind → EndsAt 10 behind → behind ≡ b ∷ after → Sofar old old_lines piece rest r lines
+    → ((bytes : List ℕ) (ls : List LogLine) → Fed ls r bytes → Fed ls q (bytes ++ front)) → Sofar old old_lines piece (10 ∷ after) q lines
+held_to_lf old r q old_lines lines piece rest front behind after b e ends is s more =
+    subst (λ t. Sofar old old_lines piece t q lines) (lf_first behind after b ends is) (held_more old r q old_lines lines piece rest front behind s e more)

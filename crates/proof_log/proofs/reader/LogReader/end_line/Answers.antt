@@ -7,7 +7,7 @@ use Rattle.proof_log.proofs.Pieced.{starved}
 use Rattle.proof_log.proofs.reader.LogReader.end_line.Goals as goal
 
 pub returns-in_default-clause-line : goal.returns-in_default-clause-line
-returns-in_default-clause-line c bytes front fed = ?
+returns-in_default-clause-line c bytes front fed = (c.in_default.ensures.items, refl, starved front c.args.self.now bytes (10 ∷ []) fed)
 
 pub returns-in-Ok-push-clause-line : goal.returns-in-Ok-push-clause-line
 returns-in-Ok-push-clause-line c bytes front fed =
