@@ -3,6 +3,10 @@ pub mod OneLog
 pub mod Fields
 pub mod OneLine
 pub mod OneText
+pub mod ShortTerms
+pub mod Short
+pub mod Written
+pub mod Whole
 mod Items
 mod Cutting
 mod Spelled

@@ -6,3 +6,5 @@ pub mod Kinds
 pub mod Grammar
 pub mod Places
 pub mod Feeding
+pub mod Writing
+pub mod Own

@@ -1,5 +1,5 @@
 -- The text of the lines of a log: a row for each kind of line.
-use Rattle.std.specs.Prelude.{ℕ, ◌≤◌, ℤ, List, [], ◌∷◌, ◌++◌, map, length, Bool, true, false, IsTrue, codes, decimal, unsigned_abs}
+use Rattle.std.specs.Prelude.{ℕ, ◌≤◌, List, [], ◌∷◌, ◌++◌, map, length, Bool, true, false, IsTrue, codes, decimal, unsigned_abs}
 use Rattle.std.specs.List.{flat_map}
 use Rattle.poly_model.specs.Polynomial.{Polynomial, is_over}
 use Rattle.poly_model.specs.Standard.{is_standard}
@@ -60,8 +60,7 @@ FitsField (Letters path) = length path ≤ MOST_LETTERS
 FitsField (Why r) = Unit {0}
 
 abbrev pub fields_text : List Field → List ℕ
-fields_text [] = []
-fields_text (f ∷ fs) = 32 ∷ (field_text f ++ fields_text fs)
+fields_text = flat_map (λ f. 32 ∷ field_text f)
 
 abbrev pub FitFields : List Field → Type 0
 FitFields [] = Unit {0}
@@ -88,10 +87,9 @@ attempt_fields (attempt.Red g f) = Index g ∷ Index f ∷ []
 attempt_fields (attempt.Tail f) = Index f ∷ []
 attempt_fields (attempt.Split f) = Index f ∷ []
 
--- Polynomials parted by `; `.
+-- Polynomials, each behind a `; `.
 abbrev pub more_text : List VarName → List Polynomial → List ℕ
-more_text names [] = []
-more_text names (p ∷ ps) = codes "; " ++ (poly_text names p ++ more_text names ps)
+more_text names = flat_map (λ p. codes "; " ++ poly_text names p)
 
 abbrev pub polys_text : List VarName → List Polynomial → List ℕ
 polys_text names [] = []

@@ -1,6 +1,7 @@
-ghost use Rattle.std.specs.Prelude.{◌≡◌, ℕ, List, [], IsTrue};
+ghost use Rattle.std.specs.Prelude.{◌≡◌, ℕ, ◌+◌, ◌≤◌, List, [], IsTrue, length};
 ghost use Rattle.poly_model.specs.Names.{are_variables};
 ghost use Rattle.poly_model.specs.declared.vars.VarName.{VarName};
+ghost use Rattle.proof_log.specs.Lengths.{line_all, lines_all};
 ghost use Rattle.proof_log.specs.Lines.{log_lines, LogWritten};
 ghost use Rattle.proof_log.specs.Text.{line_text, IsLine, text_of, AreLines};
 ghost use Rattle.proof_log.specs.declared.line.LogLine.{LogLine};
@@ -15,4 +16,12 @@ pub fn texts_are_unique()
         → AreLines [] (log_lines version ps) → AreLines [] (log_lines other qs)
         → text_of [] (log_lines version ps) ≡ text_of [] (log_lines other qs)
         → (version ≡ other) × (ps ≡ qs) }
+{}
+
+/// Lines are as short as their polynomials allow, each with its LF: so the length of a log can be told before it is written.
+pub fn texts_are_short()
+    ensures line { (names : List VarName) (l : LogLine) → IsTrue (are_variables names) → IsLine names l
+        → length (line_text names l) + 1 ≤ line_all l }
+    ensures lines { (names : List VarName) (ls : List LogLine) → IsTrue (are_variables names) → AreLines names ls
+        → length (text_of names ls) ≤ lines_all ls }
 {}
