@@ -2,5 +2,7 @@
 #![tactic(auto)]
 
 mod laws;
+mod one;
 
 pub use laws::{accepted_logs_are_whole, logs_of_problems_are_accepted};
+pub use one::prove_one;
