@@ -21,13 +21,10 @@ use Rattle.proof_log.specs.declared.line.LineWord.TheVariants as word
 use Rattle.proof_log.specs.Text.{Field, Version, Proofs, Conclusion, Index, Multiplier, Letters, Why, letter_text, reason_text, minus_where, field_text, FitsField, fields_text, FitFields, row_of, word_text}
 use Rattle.proof_log.specs.declared.field.FieldKind.{FieldKind}
 use Rattle.proof_log.specs.declared.field.FieldKind.TheVariants as kind
-use Rattle.proof_log.specs.Kinds.{kind_of, field_kinds}
+use Rattle.proof_log.specs.Kinds.{kind_of, field_kinds, words}
 use Rattle.proof_log.proofs.Bytes.{EndsAt, cut, high, high-blank, decimal-high}
 
 -- ---- words
-abbrev pub words : List LineWord
-words = word.Head ∷ word.Proves ∷ word.Prove ∷ word.Vars ∷ word.Hyp ∷ word.Con ∷ word.Node ∷ word.Drop ∷ word.Red ∷ word.Tail ∷ word.Split ∷ word.Close ∷ word.Clash ∷ word.System ∷ word.Step ∷ word.Proved ∷ word.Remainder ∷ word.Unreduced ∷ word.Open ∷ word.Eq ∷ word.Ne ∷ word.Verdict ∷ word.End ∷ []
-
 abbrev pub found : List LineWord → List ℕ → Option LineWord
 found [] text = None
 found (w ∷ ws) text = if bytes_eq (word_text w) text then Some w else found ws text

@@ -12,3 +12,11 @@ mod Cutting
 mod Spelled
 mod Plain
 mod Rows
+mod Worded
+mod Fronts
+mod Steps
+mod Completed
+mod Runs
+mod Logs
+mod Held
+mod Pieced

@@ -20,7 +20,7 @@ use Rattle.proof_log.specs.declared.line.LogLine.{LogLine}
 use Rattle.proof_log.specs.declared.line.LogLine.TheVariants as line
 use Rattle.proof_log.specs.declared.line.LineWord.{LineWord}
 use Rattle.proof_log.specs.declared.line.LineWord.TheVariants as word
-use Rattle.proof_log.specs.Text.{Field, Version, Proofs, Conclusion, Index, Multiplier, Letters, Why, fields_text, FitFields, Tail, Nothing, Poly, Names, Tried, Told, FitsPoly, FitPolys, attempt_word, attempt_fields, more_text, polys_text, verdict_text, tail_text, FitsVerdict, FitsTail, Row, row_of, word_text, line_text, IsLine}
+use Rattle.proof_log.specs.Text.{Field, Version, Proofs, Conclusion, Index, Multiplier, Letters, Why, fields_text, FitFields, Tail, Nothing, Poly, Names, Tried, Told, FitsPoly, FitPolys, attempt_word, attempt_fields, more_text, polys_text, verdict_text, names_text, tail_text, FitsVerdict, FitsTail, Row, row_of, word_text, line_text, IsLine}
 use Rattle.proof_log.proofs.Bytes.{EndsAt, cut, high, high-blank, decimal-high, poly-semicolon}
 use Rattle.proof_log.specs.Kinds.{kind_of, field_kinds, tail_kind_of, tail_kind}
 use Rattle.proof_log.proofs.Fields.{fields-end, placed, same-fields, same-word, value, value-again, word-high}
@@ -95,9 +95,6 @@ same-name (X i) (U j) p q e = absurd (apart _ _ e refl)
 pub name-high : (n : VarName) → number n ≤ 255 → high (variable_text n) ≡ true
 name-high (U i) p = decimal-high i (omega (arith, p))
 name-high (X i) p = decimal-high i (omega (arith, p))
-
-abbrev pub names_text : List VarName → List ℕ
-names_text ns = flat_map (λ n. 32 ∷ variable_text n) ns
 
 names-end : (ns : List VarName) → EndsAt 32 (names_text ns)
 names-end [] = tt

@@ -15,11 +15,11 @@ use Rattle.proof_log.specs.declared.line.LogLine.{LogLine}
 use Rattle.proof_log.specs.declared.line.LogLine.TheVariants as line
 use Rattle.proof_log.specs.declared.log.Proof.{Proof}
 use Rattle.proof_log.specs.Lines.{log_lines, LogWritten}
-use Rattle.proof_log.specs.Text.{Index, FitsPoly, Field, Conclusion, Letters, Why, field_text, fields_text, FitFields, Tail, Nothing, Poly, Names, Tried, Told, FitPolys, attempt_fields, more_text, polys_text, verdict_text, tail_text, FitsVerdict, FitsTail, row_of, word_text, line_text, IsLine, names_after, text_of, AreLines}
+use Rattle.proof_log.specs.Text.{Index, FitsPoly, Field, Conclusion, Letters, Why, field_text, fields_text, FitFields, Tail, Nothing, Poly, Names, Tried, Told, FitPolys, attempt_fields, more_text, polys_text, verdict_text, names_text, tail_text, FitsVerdict, FitsTail, row_of, word_text, line_text, IsLine, names_after, text_of, AreLines}
 use Rattle.proof_log.proofs.Bytes.{high, Avoids, avoids-append, cut, high-line, poly-line}
 use Rattle.proof_log.proofs.OneLog.{one_log}
 use Rattle.proof_log.proofs.Fields.{field-high, word-high}
-use Rattle.proof_log.proofs.OneLine.{one_line, names_text, name-high, tried_text}
+use Rattle.proof_log.proofs.OneLine.{one_line, name-high, tried_text}
 
 -- ---- no line has an LF
 blank-plain : (bs : List ℕ) → Avoids 10 bs → Avoids 10 (32 ∷ bs)

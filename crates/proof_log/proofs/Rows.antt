@@ -1,19 +1,18 @@
 -- Fields, variables and polynomials as items that stand one behind the other.
-use Rattle.std.proofs.Common.{◌≡◌, ◌≢◌, ℕ, ◌≤◌, List, [], ◌∷◌, ◌++◌, length, Bool, true, false, refl, sym, ◌∙◌, ap, subst, append-nil, append_assoc, arith}
+use Rattle.std.proofs.Common.{◌≡◌, ◌≢◌, ℕ, ◌≤◌, List, [], ◌∷◌, ◌++◌, length, Bool, true, false, refl, sym, ◌∙◌, ap, subst, arith}
 use Rattle.std.specs.Prelude.{codes}
 use Rattle.poly_model.specs.Names.{are_variables, number}
 use Rattle.poly_model.specs.Polynomial.{Polynomial}
 use Rattle.poly_model.specs.declared.vars.VarName.{VarName}
 use Rattle.poly_text.specs.Text.{poly_text, variable_text}
 use Rattle.poly_text.proofs.Factors.{Named}
-use Rattle.poly_text.proofs.Unique.{named}
 use Rattle.proof_log.specs.declared.field.FieldKind.{FieldKind}
 use Rattle.proof_log.specs.Cuts.{Avoids, EndsAt}
-use Rattle.proof_log.specs.Kinds.{IsAt, AreAt, kind_of}
-use Rattle.proof_log.specs.Text.{Field, field_text, FitsField, fields_text, FitFields, FitsPoly, FitPolys, more_text, polys_text}
+use Rattle.proof_log.specs.Kinds.{IsAt, AreAt, kind_of, AreNames, poly_mark}
+use Rattle.proof_log.specs.Text.{Field, field_text, FitsField, fields_text, FitFields, FitsPoly, FitPolys, more_text, polys_text, names_text}
 use Rattle.proof_log.proofs.Bytes.{high-blank, poly-semicolon}
 use Rattle.proof_log.proofs.Fields.{field-high, same-field}
-use Rattle.proof_log.proofs.OneLine.{name-high, names_text, same-name, same-poly}
+use Rattle.proof_log.proofs.OneLine.{name-high, same-name, same-poly}
 use Rattle.proof_log.proofs.Items.{Items, All, text_of, Going, no_mark, no_item, one_more, all_fit, all_only}
 
 -- ---- fields of given kinds
@@ -118,16 +117,42 @@ unfolding text_of
 names_spelled [] = refl
 names_spelled (n ∷ ns) = ap (λ t. 32 ∷ (variable_text n ++ t)) (names_spelled ns)
 
-pub named_fit : (ns : List VarName) → Named ns → All names tt ns
+pub are_names : (ns : List VarName) → AreNames ns → All names tt ns
 unfolding All
-named_fit [] h = tt
-named_fit (n ∷ ns) h = (h.0, named_fit ns h.2)
+are_names [] h = tt
+are_names (n ∷ ns) h = (h.0, are_names ns h.1)
+
+pub named_bytes : (ns : List VarName) → Named ns → AreNames ns
+named_bytes [] h = tt
+named_bytes (n ∷ ns) h = (h.0, named_bytes ns h.2)
+
+pub variables_are_names : (ns : List VarName) → are_variables ns ≡ true → AreNames ns
+variables_are_names ns v = named_bytes ns (named ns v)
+
+module _ (text rest : List ℕ) (done : List VarName) (g : Going names tt tt text rest done) where
+  names_refused : ((ns : List VarName) (end : List ℕ) → All names tt ns → end ≡ [] → text ≢ text_of names tt ns ++ end) → (ns : List VarName) → AreNames ns → text ≢ names_text ns
+  names_refused none ns f t = none ns [] (are_names ns f) refl (t ∙ sym (names_spelled ns) ∙ sym (append-nil (text_of names tt ns)))
+
+  pub no_blank_more : rest ≢ [] → ((behind : List ℕ) → rest ≢ 32 ∷ behind) → (ns : List VarName) → AreNames ns → text ≢ names_text ns
+  no_blank_more more none = names_refused (no_mark names tt tt text rest done g (λ d x. more x) none)
+
+  pub no_name : (behind word next : List ℕ) → rest ≢ [] → rest ≡ 32 ∷ behind → behind ≡ word ++ next → Avoids 32 word → EndsAt 32 next → ((n : VarName) → number n ≤ 255 → word ≢ variable_text n)
+      → (ns : List VarName) → AreNames ns → text ≢ names_text ns
+  no_name behind word next more r w v u none = names_refused (no_item names tt tt text rest behind word next done g (λ d x. more x) r w v u none)
+
+  pub one_name : (behind word next : List ℕ) (n : VarName) (new : List VarName) → rest ≢ [] → rest ≡ 32 ∷ behind → behind ≡ word ++ next → Avoids 32 word → EndsAt 32 next → number n ≤ 255 → word ≡ variable_text n → new ≡ done ++ n ∷ []
+      → Going names tt tt text next new
+  one_name behind word next n new more r w v u fits t e = subst (Going names tt tt text next) (sym e) (one_more names tt tt text rest behind word next done n g (λ d x. more x) r w v u fits t)
+
+  pub names_read : rest ≡ [] → text ≡ names_text done
+  names_read e = g.spelled ∙ ap (λ l. text_of names tt done ++ l) e ∙ append-nil (text_of names tt done) ∙ names_spelled done
+
+  pub names_only : rest ≡ [] → (ns : List VarName) → AreNames ns → text ≡ names_text ns → done ≡ ns
+  names_only e ns f t =
+      (all_only names tt tt text rest done g (λ n h behind x. let no_rest : ◌≡◌ {A = List ℕ} [] (32 ∷ behind) = sym e ∙ x in cc) ns [] (are_names ns f) refl
+      (t ∙ sym (names_spelled ns) ∙ sym (append-nil (text_of names tt ns)))).0
 
 -- ---- polynomials, of which all but the first stand behind a `;`
-abbrev pub poly_mark : Bool → List ℕ
-poly_mark true = 32 ∷ []
-poly_mark false = codes "; "
-
 abbrev pub IsLater : Bool → Type 0
 IsLater true = ⊥
 IsLater false = Unit {0}
@@ -146,3 +171,55 @@ polys ns valid = record {
   opens = λ s x. refl;
   ends = λ x e. subst (EndsAt 59) (sym e) tt;
 }
+
+module _ (ns : List VarName) (valid : are_variables ns ≡ true) where
+  more_spelled : (ps : List Polynomial) → text_of (polys ns valid) false ps ≡ more_text ns ps
+  unfolding text_of
+  more_spelled [] = refl
+  more_spelled (p ∷ ps) = ap (λ t. codes "; " ++ (poly_text ns p ++ t)) (more_spelled ps)
+
+  polys_spelled : (ps : List Polynomial) → text_of (polys ns valid) true ps ≡ polys_text ns ps
+  unfolding text_of
+  polys_spelled [] = refl
+  polys_spelled (p ∷ ps) = ap (λ t. 32 ∷ (poly_text ns p ++ t)) (more_spelled ps)
+
+  later_fit : (ps : List Polynomial) → FitPolys ns ps → All (polys ns valid) false ps
+  unfolding All
+  later_fit [] f = tt
+  later_fit (p ∷ ps) f = (f.0, later_fit ps f.1)
+
+  polys_fit : (ps : List Polynomial) → 1 ≤ length ps → FitPolys ns ps → All (polys ns valid) true ps
+  unfolding All
+  polys_fit [] some f = absurd (omega (arith, some))
+  polys_fit (p ∷ ps) some f = (f.0, later_fit ps f.1)
+
+  fit_later : (ps : List Polynomial) → All (polys ns valid) false ps → FitPolys ns ps
+  unfolding All
+  fit_later [] f = tt
+  fit_later (p ∷ ps) f = (f.0, fit_later ps f.1)
+
+  fit_polys : (ps : List Polynomial) → All (polys ns valid) true ps → (1 ≤ length ps) × FitPolys ns ps
+  unfolding All
+  fit_polys [] f = absurd f
+  fit_polys (p ∷ ps) f = (omega arith, (f.0, fit_later ps f.1))
+
+  module _ (first : Bool) (text rest : List ℕ) (done : List Polynomial) (g : Going (polys ns valid) true first text rest done) (go : IsLater first → rest ≢ []) where
+    polys_refused : ((ps : List Polynomial) (end : List ℕ) → All (polys ns valid) true ps → end ≡ [] → text ≢ text_of (polys ns valid) true ps ++ end)
+        → (ps : List Polynomial) → 1 ≤ length ps → FitPolys ns ps → text ≢ polys_text ns ps
+    polys_refused none ps some f t = none ps [] (polys_fit ps some f) refl (t ∙ sym (polys_spelled ps) ∙ sym (append-nil (text_of (polys ns valid) true ps)))
+
+    pub no_poly_mark : ((behind : List ℕ) → rest ≢ poly_mark first ++ behind) → (ps : List Polynomial) → 1 ≤ length ps → FitPolys ns ps → text ≢ polys_text ns ps
+    no_poly_mark none = polys_refused (no_mark (polys ns valid) true first text rest done g go none)
+
+    pub no_poly : (behind word next : List ℕ) → rest ≡ poly_mark first ++ behind → behind ≡ word ++ next → Avoids 59 word → EndsAt 59 next → ((p : Polynomial) → FitsPoly ns p → word ≢ poly_text ns p)
+        → (ps : List Polynomial) → 1 ≤ length ps → FitPolys ns ps → text ≢ polys_text ns ps
+    no_poly behind word next r w v u none = polys_refused (no_item (polys ns valid) true first text rest behind word next done g go r w v u none)
+
+    pub one_poly : (behind word next : List ℕ) (p : Polynomial) (new : List Polynomial) → rest ≡ poly_mark first ++ behind → behind ≡ word ++ next → Avoids 59 word → EndsAt 59 next → FitsPoly ns p → word ≡ poly_text ns p
+        → new ≡ done ++ p ∷ [] → Going (polys ns valid) true false text next new
+    one_poly behind word next p new r w v u fits t e = subst (Going (polys ns valid) true false text next) (sym e) (one_more (polys ns valid) true first text rest behind word next done p g go r w v u fits t)
+
+  pub polys_read : (text rest : List ℕ) (done : List Polynomial) → Going (polys ns valid) true false text rest done → rest ≡ [] → (1 ≤ length done) × FitPolys ns done × (text ≡ polys_text ns done)
+  polys_read text rest done g e =
+      let f = fit_polys done (all_fit (polys ns valid) true false text rest done g tt) in
+      (f.0, f.1, g.spelled ∙ ap (λ l. text_of (polys ns valid) true done ++ l) e ∙ append-nil (text_of (polys ns valid) true done) ∙ polys_spelled done)

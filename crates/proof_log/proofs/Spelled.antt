@@ -1,5 +1,5 @@
 -- Small fields and their text.
-use Rattle.std.proofs.Common.{◌≡◌, ◌≢◌, ℕ, ℤ, pos, negsuc, ◌+◌, ◌^◌, ◌<◌, ◌≤◌, suc, zero, List, [], ◌∷◌, ◌++◌, length, map, get_or, Bool, true, false, refl, sym, ◌∙◌, ap, arith, subst, Option, Some, None, append_assoc, append-nil, length-append, ◌⊎◌, inl, inr}
+use Rattle.std.proofs.Common.{◌≡◌, ◌≢◌, ℕ, ℤ, pos, ◌^◌, ◌<◌, ◌≤◌, suc, zero, List, [], ◌∷◌, ◌++◌, length, map, get_or, Bool, true, false, refl, sym, ◌∙◌, ap, arith, subst, Option, Some, None, append_assoc, append-nil, length-append}
 use Rattle.std.specs.Prelude.{decimal, unsigned_abs}
 use Rattle.std.proofs.lemmas.List.{map-append}
 use Rattle.poly_model.specs.Content.{is_negative, signed_by}
@@ -8,7 +8,6 @@ use Rattle.poly_text.specs.Reading.{number_at}
 use Rattle.poly_text.proofs.Numbers.{begins_digit, number_at-sound, number_at-complete, digits_written}
 use Rattle.proof_log.specs.Text.{letter_text, minus_where}
 use Rattle.proof_log.proofs.Bytes.{heads}
-
 
 -- ---- numbers
 again : (most n : ℕ) → most < 2 ^ 127 → n ≤ most → number_at most (decimal n) ≡ Some (n, [])

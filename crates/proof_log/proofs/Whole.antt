@@ -1,26 +1,21 @@
 -- The text of a log, as its parts are written one behind the other, is that of its lines.
-use Rattle.std.proofs.Common.{◌≡◌, ◌≤◌, ◌<◌, ◌+◌, ℕ, suc, List, [], ◌∷◌, ◌++◌, length, map, drop, get_or, refl, sym, ◌∙◌, ap, arith, append_assoc, append-nil, codes, decimal}
+use Rattle.std.proofs.Common.{◌≡◌, ◌+◌, ℕ, suc, List, [], ◌∷◌, ◌++◌, length, map, refl, sym, ◌∙◌, ap, arith, append_assoc, append-nil, codes, decimal}
 use Rattle.std.specs.List.{flat_map}
-use Rattle.std.proofs.lemmas.List.{drop_all}
-use Rattle.std.proofs.Math.Seq.{drop-cons}
-use Rattle.poly_model.specs.Polynomial.{Polynomial}
 use Rattle.poly_model.specs.declared.vars.VarName.{VarName}
 use Rattle.proof_steps.specs.declared.piece.LeafStatus.{LeafStatus}
 use Rattle.proof_steps.specs.declared.piece.LeafStatus.TheVariants as status
 use Rattle.proof_steps.specs.declared.piece.Outcome.{Outcome}
 use Rattle.proof_steps.specs.declared.piece.Outcome.TheVariants as outcome
 use Rattle.proof_steps.specs.declared.piece.Piece.{Piece}
-use Rattle.proof_steps.specs.declared.problem.Problem.{Problem}
 use Rattle.proof_steps.specs.declared.step.Step.{Step}
 use Rattle.proof_steps.specs.declared.step.Step.TheVariants as step
 use Rattle.proof_log.specs.declared.line.LogLine.{LogLine}
 use Rattle.proof_log.specs.declared.line.LogLine.TheVariants as line
-use Rattle.proof_log.specs.declared.line.LineWord.{LineWord}
 use Rattle.proof_log.specs.declared.line.LineWord.TheVariants as word
 use Rattle.proof_log.specs.declared.log.Proof.{Proof}
-use Rattle.proof_log.specs.Lines.{step_line, status_line, list_lines, outcome_lines, work_lines, piece_lines, problem_lines, proof_lines, proofs_lines, log_lines}
+use Rattle.proof_log.specs.Lines.{step_line, status_line, list_lines, outcome_lines, work_lines, piece_lines, proof_lines, proofs_lines, log_lines}
 use Rattle.proof_log.specs.Text.{line_text, names_after, text_of, word_text}
-use Rattle.proof_log.specs.Writing.{whole_line, polynomials_text, step_text, chain_text, lists_text, system_text, open_text, outcome_text, piece_text, problem_text, count_text, proof_text, proofs_text, log_text}
+use Rattle.proof_log.specs.Writing.{whole_line, polynomials_text, step_text, chain_text, lists_text, outcome_text, piece_text, count_text, proof_text, proofs_text, log_text}
 
 -- ---- numbered proofs
 pub proofs_next : (k : ℕ) (rest others : List Proof) (p : Proof) → rest ≡ p ∷ others → proofs_text k rest ≡ proof_text k p ++ proofs_text (k + 1) others
@@ -122,7 +117,7 @@ one-proof names k p rest =
     ∙ ap (λ l. l ++ text_of names (line.Vars vars ∷ (((hyps ++ cons) ++ (pieces ++ line.Verdict p.verdict ∷ [])) ++ rest))) (counted names k)
     ∙ ap (λ l. a ++ l) (first-line names (line.Vars vars) (((hyps ++ cons) ++ (pieces ++ line.Verdict p.verdict ∷ [])) ++ rest))
     ∙ ap (λ l. a ++ (b ++ text_of vars l)) (append_assoc (hyps ++ cons) (pieces ++ line.Verdict p.verdict ∷ []) rest
-        ∙ append_assoc hyps cons ((pieces ++ line.Verdict p.verdict ∷ []) ++ rest) ∙ ap (λ l. hyps ++ (cons ++ l)) (append_assoc pieces (line.Verdict p.verdict ∷ []) rest))
+    ∙ append_assoc hyps cons ((pieces ++ line.Verdict p.verdict ∷ []) ++ rest) ∙ ap (λ l. hyps ++ (cons ++ l)) (append_assoc pieces (line.Verdict p.verdict ∷ []) rest))
     ∙ ap (λ l. a ++ (b ++ l)) (kept-lines vars line.Hyp (λ x. refl) p.problem.hyps (cons ++ (pieces ++ (line.Verdict p.verdict ∷ rest))))
     ∙ ap (λ l. a ++ (b ++ (c ++ l))) (kept-lines vars line.Con (λ x. refl) p.problem.cons (pieces ++ (line.Verdict p.verdict ∷ rest)))
     ∙ ap (λ l. a ++ (b ++ (c ++ (d ++ l)))) (all-pieces vars p.tree.pieces (line.Verdict p.verdict ∷ rest))

@@ -1,12 +1,27 @@
 -- Which fields and which rest stand behind each word.
-use Rattle.std.specs.Prelude.{◌≡◌, List, [], ◌∷◌}
+use Rattle.std.specs.Prelude.{◌≡◌, ◌≤◌, ℕ, Bool, true, false, List, [], ◌∷◌, length, codes}
+use Rattle.poly_model.specs.Names.{number}
+use Rattle.poly_model.specs.declared.vars.VarName.{VarName}
 use Rattle.proof_log.specs.declared.field.FieldKind.{FieldKind}
 use Rattle.proof_log.specs.declared.field.FieldKind.TheVariants as kind
 use Rattle.proof_log.specs.declared.tail.TailKind.{TailKind}
 use Rattle.proof_log.specs.declared.tail.TailKind.TheVariants as tail
 use Rattle.proof_log.specs.declared.line.LineWord.{LineWord}
 use Rattle.proof_log.specs.declared.line.LineWord.TheVariants as word
-use Rattle.proof_log.specs.Text.{Field, Version, Proofs, Conclusion, Index, Multiplier, Letters, Why, FitsField, Tail, Nothing, Poly, Names, Tried, Told}
+use Rattle.poly_text.specs.Text.{poly_text}
+use Rattle.proof_steps.specs.declared.step.Attempt.{Attempt}
+use Rattle.proof_steps.specs.declared.step.Attempt.TheVariants as attempt
+use Rattle.verdicts.specs.declared.verdict.Verdict.{Verdict}
+use Rattle.verdicts.specs.declared.verdict.Verdict.TheVariants as verdict
+use Rattle.proof_log.specs.declared.attempt.AttemptWord.{AttemptWord}
+use Rattle.proof_log.specs.declared.attempt.AttemptWord.TheVariants as attempt_word
+use Rattle.proof_log.specs.declared.told.VerdictWord.{VerdictWord}
+use Rattle.proof_log.specs.declared.told.VerdictWord.TheVariants as verdict_word
+use Rattle.proof_log.specs.declared.told.VerdictRest.{VerdictRest}
+use Rattle.proof_log.specs.declared.told.VerdictRest.TheVariants as rest
+use Rattle.proof_log.specs.declared.told.RestKind.{RestKind}
+use Rattle.proof_log.specs.declared.told.RestKind.TheVariants as rest_kind
+use Rattle.proof_log.specs.Text.{Field, Version, Proofs, Conclusion, Index, Multiplier, Letters, Why, FitsField, FitsPoly, FitPolys, polys_text, Tail, Nothing, Poly, Names, Tried, Told}
 
 abbrev pub kind_of : Field → FieldKind
 kind_of (Version v) = kind.Version
@@ -34,6 +49,9 @@ AreAt [] [] = Unit {0}
 AreAt [] (f ∷ fs) = ⊥
 AreAt (k ∷ ks) [] = ⊥
 AreAt (k ∷ ks) (f ∷ fs) = IsAt k f × AreAt ks fs
+
+abbrev pub words : List LineWord
+words = word.Head ∷ word.Proves ∷ word.Prove ∷ word.Vars ∷ word.Hyp ∷ word.Con ∷ word.Node ∷ word.Drop ∷ word.Red ∷ word.Tail ∷ word.Split ∷ word.Close ∷ word.Clash ∷ word.System ∷ word.Step ∷ word.Proved ∷ word.Remainder ∷ word.Unreduced ∷ word.Open ∷ word.Eq ∷ word.Ne ∷ word.Verdict ∷ word.End ∷ []
 
 abbrev pub field_kinds : LineWord → List FieldKind
 field_kinds word.Head = kind.Version ∷ []
@@ -84,3 +102,89 @@ tail_kind word.Eq = tail.Poly
 tail_kind word.Ne = tail.Poly
 tail_kind word.Verdict = tail.Told
 tail_kind word.End = tail.Nothing
+
+-- Variables whose numbers are bytes.
+abbrev pub AreNames : List VarName → Type 0
+AreNames [] = Unit {0}
+AreNames (n ∷ ns) = (number n ≤ 255) × AreNames ns
+
+-- What stands before a polynomial of a list: before the first, and before each later one.
+abbrev pub poly_mark : Bool → List ℕ
+poly_mark true = codes " "
+poly_mark false = codes "; "
+
+-- ---- attempts and verdicts: a word, fields of these kinds, and what takes the rest
+abbrev pub attempt_word_of : Attempt → AttemptWord
+attempt_word_of (attempt.Drop i) = attempt_word.Drop
+attempt_word_of (attempt.Red g f) = attempt_word.Red
+attempt_word_of (attempt.Tail f) = attempt_word.Tail
+attempt_word_of (attempt.Split f) = attempt_word.Split
+
+abbrev pub attempt_word_text : AttemptWord → List ℕ
+attempt_word_text attempt_word.Drop = codes "drop"
+attempt_word_text attempt_word.Red = codes "red"
+attempt_word_text attempt_word.Tail = codes "tail"
+attempt_word_text attempt_word.Split = codes "split"
+
+abbrev pub attempt_kinds : AttemptWord → List FieldKind
+attempt_kinds attempt_word.Drop = kind.Index ∷ []
+attempt_kinds attempt_word.Red = kind.Index ∷ kind.Index ∷ []
+attempt_kinds attempt_word.Tail = kind.Index ∷ []
+attempt_kinds attempt_word.Split = kind.Index ∷ []
+
+abbrev pub verdict_word_of : Verdict → VerdictWord
+verdict_word_of verdict.Proved = verdict_word.Proved
+verdict_word_of (verdict.Under cs) = verdict_word.Under
+verdict_word_of (verdict.NotProved path k r) = verdict_word.NotProved
+verdict_word_of (verdict.Degenerate path) = verdict_word.Degenerate
+verdict_word_of (verdict.Left path why) = verdict_word.Left
+
+abbrev pub verdict_word_text : VerdictWord → List ℕ
+verdict_word_text verdict_word.Proved = codes "proved"
+verdict_word_text verdict_word.Under = codes "under"
+verdict_word_text verdict_word.NotProved = codes "not-proved"
+verdict_word_text verdict_word.Degenerate = codes "degenerate"
+verdict_word_text verdict_word.Left = codes "left"
+
+abbrev pub verdict_fields : Verdict → List Field
+verdict_fields verdict.Proved = []
+verdict_fields (verdict.Under cs) = []
+verdict_fields (verdict.NotProved path k r) = Letters path ∷ Conclusion k ∷ []
+verdict_fields (verdict.Degenerate path) = Letters path ∷ []
+verdict_fields (verdict.Left path why) = Letters path ∷ Why why ∷ []
+
+abbrev pub verdict_kinds : VerdictWord → List FieldKind
+verdict_kinds verdict_word.Proved = []
+verdict_kinds verdict_word.Under = []
+verdict_kinds verdict_word.NotProved = kind.Letters ∷ kind.Conclusion ∷ []
+verdict_kinds verdict_word.Degenerate = kind.Letters ∷ []
+verdict_kinds verdict_word.Left = kind.Letters ∷ kind.Why ∷ []
+
+abbrev pub verdict_rest : Verdict → VerdictRest
+verdict_rest verdict.Proved = rest.Nothing
+verdict_rest (verdict.Under cs) = rest.Polys cs
+verdict_rest (verdict.NotProved path k r) = rest.Poly r
+verdict_rest (verdict.Degenerate path) = rest.Nothing
+verdict_rest (verdict.Left path why) = rest.Nothing
+
+abbrev pub rest_kind_of : VerdictRest → RestKind
+rest_kind_of rest.Nothing = rest_kind.Nothing
+rest_kind_of (rest.Poly p) = rest_kind.Poly
+rest_kind_of (rest.Polys ps) = rest_kind.Polys
+
+abbrev pub rest_kind_behind : VerdictWord → RestKind
+rest_kind_behind verdict_word.Proved = rest_kind.Nothing
+rest_kind_behind verdict_word.Under = rest_kind.Polys
+rest_kind_behind verdict_word.NotProved = rest_kind.Poly
+rest_kind_behind verdict_word.Degenerate = rest_kind.Nothing
+rest_kind_behind verdict_word.Left = rest_kind.Nothing
+
+abbrev pub rest_text : List VarName → VerdictRest → List ℕ
+rest_text names rest.Nothing = []
+rest_text names (rest.Poly p) = 32 ∷ poly_text names p
+rest_text names (rest.Polys ps) = polys_text names ps
+
+abbrev pub FitsRest : List VarName → VerdictRest → Type 0
+FitsRest names rest.Nothing = Unit {0}
+FitsRest names (rest.Poly p) = FitsPoly names p
+FitsRest names (rest.Polys ps) = (1 ≤ length ps) × FitPolys names ps

@@ -3,6 +3,9 @@ pub mod Text
 pub mod Lengths
 pub mod Cuts
 pub mod Kinds
+pub mod Grammar
+pub mod Places
+pub mod Feeding
 pub mod Writing
 pub mod Own
 pub mod Accepted

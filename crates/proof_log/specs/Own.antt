@@ -1,5 +1,5 @@
 -- Logs of which each polynomial that is written has only the variables of its problem.
-use Rattle.std.specs.Prelude.{ℕ, List, length, IsTrue, All}
+use Rattle.std.specs.Prelude.{ℕ, length, IsTrue, All}
 use Rattle.poly_model.specs.Polynomial.{Polynomial, is_over}
 use Rattle.proof_steps.specs.declared.piece.ChainStep.{ChainStep}
 use Rattle.proof_steps.specs.declared.piece.Outcome.{Outcome}

@@ -1,5 +1,5 @@
 -- The text of the lines of a log: a row for each kind of line.
-use Rattle.std.specs.Prelude.{ℕ, ◌≤◌, ℤ, List, [], ◌∷◌, ◌++◌, map, length, Bool, true, false, IsTrue, codes, decimal, unsigned_abs}
+use Rattle.std.specs.Prelude.{ℕ, ◌≤◌, List, [], ◌∷◌, ◌++◌, map, length, Bool, true, false, IsTrue, codes, decimal, unsigned_abs}
 use Rattle.std.specs.List.{flat_map}
 use Rattle.poly_model.specs.Polynomial.{Polynomial, is_over}
 use Rattle.poly_model.specs.Standard.{is_standard}
@@ -102,10 +102,13 @@ verdict_text names (verdict.NotProved path k r) = codes "not-proved" ++ (fields_
 verdict_text names (verdict.Degenerate path) = codes "degenerate" ++ fields_text (Letters path ∷ [])
 verdict_text names (verdict.Left path why) = codes "left" ++ fields_text (Letters path ∷ Why why ∷ [])
 
+abbrev pub names_text : List VarName → List ℕ
+names_text ns = flat_map (λ n. 32 ∷ variable_text n) ns
+
 abbrev pub tail_text : List VarName → Tail → List ℕ
 tail_text names Nothing = []
 tail_text names (Poly p) = 32 ∷ poly_text names p
-tail_text names (Names ns) = flat_map (λ n. 32 ∷ variable_text n) ns
+tail_text names (Names ns) = names_text ns
 tail_text names (Tried what) = 32 ∷ (attempt_word what ++ fields_text (attempt_fields what))
 tail_text names (Told v) = 32 ∷ verdict_text names v
 

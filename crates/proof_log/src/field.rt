@@ -1,4 +1,5 @@
-ghost use Rattle.std.specs.Prelude.{◌≡◌, ◌≢◌, ◌<◌, ◌≤◌, ◌^◌, ◌++◌, ◌∷◌, List, ℕ, ℤ, pos, Bool, false, length, map, decimal, IfSome, IfNone, IfOk, MatchOption};
+ghost use Rattle.std.specs.Prelude.{◌≡◌, ◌≢◌, ◌<◌, ◌≤◌, ◌^◌, ◌++◌, ◌∷◌, List, ℕ, ℤ, pos, Bool, false, length, map, decimal, IfSome, IfNone, IfOk, IsErrOf, MatchOption};
+ghost use Rattle.proof_log.specs.declared.fault.LineFault.{LineFault};
 ghost use Rattle.proof_log.specs.Cuts.{EndsAt};
 ghost use Rattle.poly_model.specs.Content.{signed_by};
 ghost use Rattle.poly_model.specs.declared.limits.TheConstants.{MOST_LETTERS, MOST_SIZE};
@@ -6,12 +7,13 @@ ghost use Rattle.poly_model.specs.declared.limits.Reason.{Reason};
 ghost use Rattle.proof_log.specs.Kinds.{IsAt, AreAt};
 ghost use Rattle.proof_log.specs.Text.{Field, Multiplier, letter_text, reason_text, minus_where, field_text, FitsField, fields_text};
 
+use crate::cut::cut;
+use crate::fault::LineFault;
 use crate::limits::{MOST_INDEX, MOST_PROOFS, VERSION};
 use poly_model::{MOST_CONCLUSIONS, MOST_LETTERS, MOST_SIZE, Reason};
 use poly_text::read_number;
-use crate::cut::cut;
-use std::alloc::{AllocError, Global};
 use proof_steps::Path;
+use std::alloc::Global;
 
 /// A small field of a line: a version, how many proofs or which, a conclusion, an equation or a condition, a multiplier,
 /// a path, a reason.
@@ -39,7 +41,7 @@ pub enum FieldKind {
 }
 
 /// The number that a text spells, if it is one of these.
-fn number_of(least: u128, most: u128, text: &[u8]) -> Option<u128>
+pub fn number_of(least: u128, most: u128, text: &[u8]) -> Option<u128>
     requires { most < 2 ^ 127 }
     ensures reads { IfSome result (λ n. (least ≤ n) × (n ≤ most) × (text.now ≡ decimal n)) }
     ensures refuses { IfNone result ((n : ℕ) → least ≤ n → n ≤ most → text.now ≢ decimal n) }
@@ -195,27 +197,31 @@ pub fn fields_at<'a>(
     alloc: Global,
     kinds: &[FieldKind],
     text: &'a [u8],
-) -> Result<Option<(Vec<Field>, &'a [u8])>, AllocError>
-    ensures reads { IfOk result (λ o. IfSome o (λ x. AreAt kinds.now x.0.items
-        × (text.now ≡ fields_text x.0.items ++ x.1.now))) }
-    ensures only { IfOk result (λ o. (fs : List Field) (rest : List ℕ) → AreAt kinds.now fs
-        → EndsAt 32 rest → text.now ≡ fields_text fs ++ rest
-        → MatchOption o ⊥ (λ x. (x.0.items ≡ fs) × (x.1.now ≡ rest))) }
+) -> Result<(Vec<Field>, &'a [u8]), LineFault>
+    ensures reads { IfOk result (λ x. AreAt kinds.now x.0.items
+        × (text.now ≡ fields_text x.0.items ++ x.1.now)) }
+    ensures only { (fs : List Field) (rest : List ℕ) → AreAt kinds.now fs → EndsAt 32 rest
+        → text.now ≡ fields_text fs ++ rest
+        → IfOk result (λ x. (x.0.items ≡ fs) × (x.1.now ≡ rest)) }
+    ensures refuses { IsErrOf result LineFault.Malformed → (fs : List Field) (rest : List ℕ)
+        → AreAt kinds.now fs → EndsAt 32 rest → text.now ≢ fields_text fs ++ rest }
 {
     let mut fields = Vec::new(alloc);
     let mut rest = text;
     let mut left = kinds;
     while let Some((kind, after)) = left.split_first() {
         let Some(behind) = behind_blank(rest) else {
-            return Ok(None);
+            return Err(LineFault::Malformed);
         };
         let (word, next) = cut(b' ', behind);
         let Some(field) = field_of(*kind, word) else {
-            return Ok(None);
+            return Err(LineFault::Malformed);
         };
-        fields.push(field)?;
+        let Ok(()) = fields.push(field) else {
+            return Err(LineFault::OutOfMemory);
+        };
         rest = next;
         left = after;
     }
-    Ok(Some((fields, rest)))
+    Ok((fields, rest))
 }

@@ -1,21 +1,33 @@
-//! Logs of proofs: a log as a whole value, its lines, and the text of its lines.
+//! Logs of proofs: a log as a whole value, its lines, the text of its lines both ways, and a reader of logs that come in
+//! pieces.
 #![tactic(auto)]
 
+mod attempt;
 mod cut;
+mod fault;
 mod field;
 mod laws;
 mod limits;
 mod line;
+mod line_reading;
 mod line_writing;
 mod log;
-
+mod place;
+mod reader;
 mod tail;
+mod told;
 mod words;
 mod writing;
 
+pub use fault::LineFault;
 pub use laws::{texts_are_short, texts_are_unique};
 pub use limits::{MOST_INDEX, MOST_PROOFS, VERSION};
 pub use line::{LineWord, LogLine};
+pub use line_reading::read_line;
 pub use line_writing::write_verdict;
 pub use log::{Log, Proof};
+pub use reader::{LogFault, LogReader, pieces_do_not_matter};
 pub use writing::write_log;
+
+#[cfg(test)]
+mod tests;

@@ -1,3 +1,6 @@
+ghost use Rattle.std.specs.Prelude.{◌≡◌};
+ghost use Rattle.proof_log.specs.Text.{row_of};
+
 use poly_model::{OwnedPoly, Reason, Vars};
 use proof_steps::{Attempt, ChainStep, Path};
 use verdicts::Verdict;
@@ -74,4 +77,37 @@ pub enum LineWord {
     Ne,
     Verdict,
     End,
+}
+
+impl LogLine {
+    /// The first word of the line.
+    pub fn word(&self) -> LineWord
+        ensures { result ≡ (row_of self.now).word }
+    {
+        match self {
+            LogLine::Head(_) => LineWord::Head,
+            LogLine::Proves(_) => LineWord::Proves,
+            LogLine::Prove(_) => LineWord::Prove,
+            LogLine::Vars(_) => LineWord::Vars,
+            LogLine::Hyp(_) => LineWord::Hyp,
+            LogLine::Con(_) => LineWord::Con,
+            LogLine::Node(_) => LineWord::Node,
+            LogLine::Drop(_) => LineWord::Drop,
+            LogLine::Red { .. } => LineWord::Red,
+            LogLine::Tail { .. } => LineWord::Tail,
+            LogLine::Split { .. } => LineWord::Split,
+            LogLine::Close(_) => LineWord::Close,
+            LogLine::Clash(_, _) => LineWord::Clash,
+            LogLine::System => LineWord::System,
+            LogLine::Chain(_) => LineWord::Step,
+            LogLine::Proved => LineWord::Proved,
+            LogLine::Remainder(_) => LineWord::Remainder,
+            LogLine::Unreduced { .. } => LineWord::Unreduced,
+            LogLine::Open { .. } => LineWord::Open,
+            LogLine::Eq(_) => LineWord::Eq,
+            LogLine::Ne(_) => LineWord::Ne,
+            LogLine::Verdict(_) => LineWord::Verdict,
+            LogLine::End => LineWord::End,
+        }
+    }
 }

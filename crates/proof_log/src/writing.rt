@@ -38,12 +38,7 @@ fn write_polynomials<S: Sink>(
     Ok(())
 }
 
-fn write_step<S: Sink>(
-    step: &Step,
-    vars: &Vars,
-    pen: &mut Pen,
-    sink: &mut S,
-) -> Result<(), Failed>
+fn write_step<S: Sink>(step: &Step, vars: &Vars, pen: &mut Pen, sink: &mut S) -> Result<(), Failed>
     requires { StepIsOver (length vars.now) step.now }
     ensures bytes { Writes (S.written sink.old) (S.written sink.new) pen.old pen.new result
         (step_text vars.now step.now) }
@@ -98,7 +93,14 @@ fn write_chain_step<S: Sink>(
         Field::Index(step.f),
         Field::Multiplier(step.m),
     ];
-    write_row(LineWord::Step, &fields, Rest::Poly(&step.r), vars, pen, sink)
+    write_row(
+        LineWord::Step,
+        &fields,
+        Rest::Poly(&step.r),
+        vars,
+        pen,
+        sink,
+    )
 }
 
 fn write_chain<S: Sink>(
@@ -129,9 +131,7 @@ fn write_status<S: Sink>(
     ensures cause { HasCause (S.faults sink.old) (S.faults sink.new) result }
 {
     match status {
-        LeafStatus::Proved => {
-            write_row(LineWord::Proved, &[], Rest::Nothing, vars, pen, sink)
-        }
+        LeafStatus::Proved => { write_row(LineWord::Proved, &[], Rest::Nothing, vars, pen, sink) }
         LeafStatus::Remainder { k, r: _ } => {
             let fields = [Field::Conclusion(*k)];
             write_row(LineWord::Remainder, &fields, Rest::Nothing, vars, pen, sink)
@@ -211,7 +211,14 @@ fn write_outcome<S: Sink>(
     match &piece.outcome {
         Outcome::Split { f, initial } => {
             let fields = [Field::Index(*f)];
-            write_row(LineWord::Split, &fields, Rest::Poly(initial), vars, pen, sink)
+            write_row(
+                LineWord::Split,
+                &fields,
+                Rest::Poly(initial),
+                vars,
+                pen,
+                sink,
+            )
         }
         Outcome::Close(i) => {
             let fields = [Field::Index(*i)];
@@ -275,12 +282,7 @@ fn write_problem<S: Sink>(problem: &Problem, pen: &mut Pen, sink: &mut S) -> Res
 }
 
 /// Writes a line with a number.
-fn write_count<S: Sink>(
-    word: LineWord,
-    n: usize,
-    pen: &mut Pen,
-    sink: &mut S,
-) -> Result<(), Failed>
+fn write_count<S: Sink>(word: LineWord, n: usize, pen: &mut Pen, sink: &mut S) -> Result<(), Failed>
     ensures bytes { Writes (S.written sink.old) (S.written sink.new) pen.old pen.new result
         (count_text word n) }
     ensures cause { HasCause (S.faults sink.old) (S.faults sink.new) result }
@@ -306,7 +308,14 @@ fn write_proof<S: Sink>(
     write_count(LineWord::Prove, number, pen, sink)?;
     write_problem(&proof.problem, pen, sink)?;
     write_pieces(proof.tree.pieces.as_slice(), vars, pen, sink)?;
-    write_row(LineWord::Verdict, &[], Rest::Told(&proof.verdict), vars, pen, sink)
+    write_row(
+        LineWord::Verdict,
+        &[],
+        Rest::Told(&proof.verdict),
+        vars,
+        pen,
+        sink,
+    )
 }
 
 /// Writes proofs, numbered from 1.

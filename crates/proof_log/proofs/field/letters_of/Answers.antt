@@ -1,4 +1,4 @@
-use Rattle.std.proofs.Common.{◌≡◌, ◌∷◌, ◌++◌, sym, ◌∙◌, ap, map}
+use Rattle.std.proofs.Common.{◌++◌, sym, ◌∙◌, ap, map}
 use Rattle.proof_log.specs.Text.{letter_text}
 use Rattle.proof_log.proofs.Bytes.{heads}
 use Rattle.proof_log.proofs.Spelled.{no_letter}

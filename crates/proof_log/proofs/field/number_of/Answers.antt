@@ -1,4 +1,4 @@
-use Rattle.std.proofs.Common.{sym, ◌∙◌, arith, ap, length}
+use Rattle.std.proofs.Common.{sym, ◌∙◌, arith}
 use Rattle.proof_log.proofs.Spelled.{number_none, number_low, number_more, number_reads}
 use Rattle.proof_log.proofs.Plain.{none_left, some_left}
 use Rattle.proof_log.proofs.field.number_of.Goals as goal

@@ -1,4 +1,4 @@
-use Rattle.std.proofs.Common.{◌+◌, ◌++◌, ◌∷◌, codes, take, drop, arith}
+use Rattle.std.proofs.Common.{◌+◌, ◌∷◌, take, drop, arith}
 use Rattle.desk_io.proofs.Growth.{Grew-more}
 use Rattle.desk_io.proofs.Writing.{next_failed}
 use Rattle.proof_log.specs.Text.{field_text, fields_text}

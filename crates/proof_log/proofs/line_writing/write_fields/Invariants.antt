@@ -1,6 +1,6 @@
 use Rattle.std.proofs.Common.{◌≤◌, take}
 use Rattle.desk_io.specs.Bytes.{Grew}
-use Rattle.proof_log.specs.Text.{field_text, fields_text}
+use Rattle.proof_log.specs.Text.{fields_text}
 use Rattle.proof_log.proofs.line_writing.write_fields.Given as goal
 
 abbrev pub invariant-loop-field : goal.invariant-loop-field

@@ -1,6 +1,5 @@
 use Rattle.std.proofs.Common.{◌≤◌, take}
 use Rattle.desk_io.specs.Bytes.{Grew}
-use Rattle.poly_text.specs.Text.{poly_text}
 use Rattle.proof_log.specs.Text.{more_text}
 use Rattle.proof_log.proofs.line_writing.write_more.Given as goal
 

@@ -1,6 +1,6 @@
 use Rattle.std.proofs.Common.{◌≤◌, take}
 use Rattle.desk_io.specs.Bytes.{Grew}
-use Rattle.proof_log.specs.Writing.{polynomial_line, polynomials_text}
+use Rattle.proof_log.specs.Writing.{polynomials_text}
 use Rattle.proof_log.proofs.writing.write_polynomials.Given as goal
 
 abbrev pub invariant-loop-p : goal.invariant-loop-p

@@ -1,4 +1,4 @@
-use Rattle.std.proofs.Common.{arith, ap, length}
+use Rattle.std.proofs.Common.{arith}
 use Rattle.desk_io.proofs.Going.{wrote, stopped}
 use Rattle.proof_log.specs.Own.{IsOwn}
 use Rattle.proof_log.proofs.Whole.{proofs_next}

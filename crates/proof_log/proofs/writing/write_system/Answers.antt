@@ -1,4 +1,4 @@
-use Rattle.std.proofs.Common.{ap, append_assoc, refl, ◌++◌, ◌∙◌}
+use Rattle.std.proofs.Common.{append_assoc, refl, ◌++◌, ◌∙◌}
 use Rattle.desk_io.proofs.Growth.{Grew-then}
 use Rattle.desk_io.proofs.Writing.{first_failed, next_failed, last_writes}
 use Rattle.std.specs.List.{flat_map}

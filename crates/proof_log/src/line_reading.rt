@@ -1,0 +1,219 @@
+ghost use Rattle.std.specs.Prelude.{◌≡◌, ◌≢◌, ◌∷◌, [], List, IfSome, IfNone, IfOk, IsErrOf};
+ghost use Rattle.proof_log.specs.Kinds.{AreAt, field_kinds, tail_kind_of, tail_kind, words};
+ghost use Rattle.proof_log.specs.Text.{row, row_of, word_text, line_text, IsLine};
+ghost use Rattle.proof_log.specs.declared.fault.LineFault.{LineFault};
+ghost use Rattle.proof_log.specs.declared.line.LineWord.{LineWord};
+ghost use Rattle.proof_log.specs.declared.line.LogLine.{LogLine};
+
+use crate::cut::cut;
+use crate::fault::LineFault;
+use crate::field::{Field, FieldKind, fields_at};
+use crate::line::{LineWord, LogLine};
+use crate::tail::{Tail, TailKind, tail_of};
+use crate::words::word_text;
+use poly_model::{OwnedPoly, Vars};
+use proof_steps::ChainStep;
+use std::alloc::Global;
+
+fn all_words() -> &'static [LineWord]
+    ensures { result.now ≡ words }
+{
+    &[
+        LineWord::Head,
+        LineWord::Proves,
+        LineWord::Prove,
+        LineWord::Vars,
+        LineWord::Hyp,
+        LineWord::Con,
+        LineWord::Node,
+        LineWord::Drop,
+        LineWord::Red,
+        LineWord::Tail,
+        LineWord::Split,
+        LineWord::Close,
+        LineWord::Clash,
+        LineWord::System,
+        LineWord::Step,
+        LineWord::Proved,
+        LineWord::Remainder,
+        LineWord::Unreduced,
+        LineWord::Open,
+        LineWord::Eq,
+        LineWord::Ne,
+        LineWord::Verdict,
+        LineWord::End,
+    ]
+}
+
+/// The word that a text spells.
+fn named(text: &[u8]) -> Option<LineWord>
+    ensures reads { IfSome result (λ word. text.now ≡ word_text word) }
+    ensures refuses { IfNone result ((word : LineWord) → text.now ≢ word_text word) }
+{
+    let mut rest = all_words();
+    while let Some((word, after)) = rest.split_first() {
+        if word_text(*word) == text {
+            return Some(*word);
+        }
+        rest = after;
+    }
+    None
+}
+
+fn kinds_of(word: LineWord) -> &'static [FieldKind]
+    ensures { result.now ≡ field_kinds word }
+{
+    match word {
+        LineWord::Head => &[FieldKind::Version],
+        LineWord::Proves | LineWord::Prove => &[FieldKind::Proofs],
+        LineWord::Node => &[FieldKind::Letters],
+        LineWord::Drop | LineWord::Tail | LineWord::Split | LineWord::Close => &[FieldKind::Index],
+        LineWord::Red => &[FieldKind::Index, FieldKind::Index, FieldKind::Multiplier],
+        LineWord::Clash => &[FieldKind::Index, FieldKind::Index],
+        LineWord::Step => &[FieldKind::Conclusion, FieldKind::Index, FieldKind::Multiplier],
+        LineWord::Remainder => &[FieldKind::Conclusion],
+        LineWord::Unreduced => &[FieldKind::Conclusion, FieldKind::Why, FieldKind::Index],
+        LineWord::Open => &[FieldKind::Why],
+        LineWord::Vars | LineWord::Hyp | LineWord::Con | LineWord::System => &[],
+        LineWord::Proved | LineWord::Eq | LineWord::Ne | LineWord::Verdict | LineWord::End => &[],
+    }
+}
+
+fn rest_of(word: LineWord) -> TailKind
+    ensures { result ≡ tail_kind word }
+{
+    match word {
+        LineWord::Vars => TailKind::Names,
+        LineWord::Hyp | LineWord::Con | LineWord::Eq | LineWord::Ne => TailKind::Poly,
+        LineWord::Red | LineWord::Tail | LineWord::Split | LineWord::Step => TailKind::Poly,
+        LineWord::Open => TailKind::Tried,
+        LineWord::Verdict => TailKind::Told,
+        LineWord::Head | LineWord::Proves | LineWord::Prove => TailKind::Nothing,
+        LineWord::Node | LineWord::Drop | LineWord::Close => TailKind::Nothing,
+        LineWord::Clash | LineWord::System | LineWord::Proved => TailKind::Nothing,
+        LineWord::Remainder | LineWord::Unreduced | LineWord::End => TailKind::Nothing,
+    }
+}
+
+/// The line of a word and one field, where nothing else stands.
+fn field_line(word: LineWord, field: Field) -> Option<LogLine>
+    ensures some { IfSome result (λ l. row_of l ≡ row word (field ∷ []) Tail.Nothing) }
+    ensures none { IfNone result (AreAt (field_kinds word) (field ∷ [])
+        → TailKind.Nothing ≡ tail_kind word → ⊥) }
+{
+    match (word, field) {
+        (LineWord::Head, Field::Version(v)) => Some(LogLine::Head(v)),
+        (LineWord::Proves, Field::Proofs(n)) => Some(LogLine::Proves(n)),
+        (LineWord::Prove, Field::Proofs(k)) => Some(LogLine::Prove(k)),
+        (LineWord::Node, Field::Letters(path)) => Some(LogLine::Node(path)),
+        (LineWord::Drop, Field::Index(i)) => Some(LogLine::Drop(i)),
+        (LineWord::Close, Field::Index(i)) => Some(LogLine::Close(i)),
+        (LineWord::Remainder, Field::Conclusion(k)) => Some(LogLine::Remainder(k)),
+        _ => None,
+    }
+}
+
+/// The line of a word and its fields, where nothing else stands.
+fn bare_line(word: LineWord, fields: &[Field]) -> Option<LogLine>
+    ensures some { IfSome result (λ l. row_of l ≡ row word fields.now Tail.Nothing) }
+    ensures none { IfNone result (AreAt (field_kinds word) fields.now
+        → TailKind.Nothing ≡ tail_kind word → ⊥) }
+{
+    match (word, fields) {
+        (_, [field]) => field_line(word, *field),
+        (LineWord::Clash, [Field::Index(i), Field::Index(j)]) => Some(LogLine::Clash(*i, *j)),
+        (LineWord::Unreduced, [Field::Conclusion(k), Field::Why(reason), Field::Index(f)]) => {
+            Some(LogLine::Unreduced {
+                k: *k,
+                reason: *reason,
+                f: *f,
+            })
+        }
+        (LineWord::System, []) => Some(LogLine::System),
+        (LineWord::Proved, []) => Some(LogLine::Proved),
+        (LineWord::End, []) => Some(LogLine::End),
+        _ => None,
+    }
+}
+
+/// The line of a word, its fields and a polynomial.
+fn poly_line(word: LineWord, fields: &[Field], p: OwnedPoly) -> Option<LogLine>
+    ensures some { IfSome result (λ l. row_of l ≡ row word fields.now (Tail.Poly p)) }
+    ensures none { IfNone result (AreAt (field_kinds word) fields.now
+        → TailKind.Poly ≡ tail_kind word → ⊥) }
+{
+    match (word, fields) {
+        (LineWord::Hyp, []) => Some(LogLine::Hyp(p)),
+        (LineWord::Con, []) => Some(LogLine::Con(p)),
+        (LineWord::Red, [Field::Index(g), Field::Index(f), Field::Multiplier(m)]) => {
+            Some(LogLine::Red {
+                g: *g,
+                f: *f,
+                m: *m,
+                r: p,
+            })
+        }
+        (LineWord::Tail, [Field::Index(f)]) => Some(LogLine::Tail { f: *f, r: p }),
+        (LineWord::Split, [Field::Index(f)]) => Some(LogLine::Split { f: *f, initial: p }),
+        (LineWord::Step, [Field::Conclusion(k), Field::Index(f), Field::Multiplier(m)]) => {
+            Some(LogLine::Chain(ChainStep {
+                k: *k,
+                f: *f,
+                m: *m,
+                r: p,
+            }))
+        }
+        (LineWord::Eq, []) => Some(LogLine::Eq(p)),
+        (LineWord::Ne, []) => Some(LogLine::Ne(p)),
+        _ => None,
+    }
+}
+
+/// The line of a word, its fields and its rest.
+fn line_of(word: LineWord, fields: &[Field], tail: Tail) -> Option<LogLine>
+    ensures some { IfSome result (λ l. row_of l ≡ row word fields.now tail) }
+    ensures none { IfNone result (AreAt (field_kinds word) fields.now
+        → tail_kind_of tail ≡ tail_kind word → ⊥) }
+{
+    match tail {
+        Tail::Nothing => bare_line(word, fields),
+        Tail::Poly(p) => poly_line(word, fields, p),
+        Tail::Names(vars) => match (word, fields) {
+            (LineWord::Vars, []) => Some(LogLine::Vars(vars)),
+            _ => None,
+        },
+        Tail::Tried(what) => match (word, fields) {
+            (LineWord::Open, [Field::Why(reason)]) => Some(LogLine::Open {
+                reason: *reason,
+                what,
+            }),
+            _ => None,
+        },
+        Tail::Told(verdict) => match (word, fields) {
+            (LineWord::Verdict, []) => Some(LogLine::Verdict(verdict)),
+            _ => None,
+        },
+    }
+}
+
+/// The line over these variables that a text spells, without its LF.
+pub fn read_line(alloc: Global, text: &[u8], vars: &Vars) -> Result<LogLine, LineFault>
+    ensures reads { IfOk result (λ l. IsLine vars.now l × (text.now ≡ line_text vars.now l)) }
+    ensures refuses { IsErrOf result LineFault.Malformed → (l : LogLine) → IsLine vars.now l
+        → text.now ≢ line_text vars.now l }
+{
+    let (front, behind) = cut(b' ', text);
+    let Some(word) = named(front) else {
+        return Err(LineFault::Malformed);
+    };
+    match fields_at(alloc, kinds_of(word), behind) {
+        Ok((fields, after)) => match tail_of(alloc, rest_of(word), after, vars) {
+            Ok(tail) => match line_of(word, &fields, tail) {
+                Some(line) => Ok(line),
+                None => Err(LineFault::Malformed),
+            },
+            Err(fault) => Err(fault),
+        },
+        Err(fault) => Err(fault),
+    }
+}
