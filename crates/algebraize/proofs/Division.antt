@@ -1,9 +1,8 @@
 -- The sizes of the equations of a point that divides a segment.
-use Rattle.std.proofs.Common.{◌≡◌, ◌≢◌, ◌≤◌, ◌+◌, ◌*◌, ℕ, zero, suc, List, [], ◌∷◌, length, sym, ◌∙◌, ap, subst, arith, refl, true}
-use Rattle.std.specs.Prelude.{ℤ, pos, negsuc, ◌*ℤ◌, unsigned_abs}
-use Rattle.std.specs.Cmp.Derive.{both_true}
+use Rattle.std.proofs.Common.{◌≡◌, ◌≢◌, ◌≤◌, ◌+◌, ◌*◌, ℕ, zero, suc, [], ◌∷◌, length, sym, ◌∙◌, ap, subst, arith, refl, true}
+use Rattle.std.specs.Prelude.{ℤ, pos, negsuc, unsigned_abs}
 use Rattle.poly_model.specs.Domain.{integer_in}
-use Rattle.poly_model.specs.Polynomial.{Entry, Polynomial, IsDescending, poly_sum, poly_difference, poly_negative, poly_product, poly_scaled}
+use Rattle.poly_model.specs.Polynomial.{Entry, Polynomial, IsDescending, poly_difference, poly_negative, poly_product, poly_scaled}
 use Rattle.poly_model.specs.declared.limits.TheConstants.{MOST_DEGREE, MOST_SIZE, MOST_TERMS, MOST_VARIABLES}
 use Rattle.poly_model.proofs.Standing.{standard-descending}
 use Rattle.poly_model.proofs.Ordered.{descending-difference}

@@ -1,12 +1,12 @@
 -- What holds of every monomial of two polynomials holds of every monomial of what is made of them.
-use Rattle.std.proofs.Common.{◌≡◌, ℕ, zero, suc, List, [], ◌∷◌, ◌++◌, length, drop, replicate, set, refl, arith, ◌+◌, ◌<◌, ◌≤◌, Bool, true, false, ◌&&◌, nat_le, nat_eq, sym, ◌∙◌, ap}
+use Rattle.std.proofs.Common.{◌≡◌, ℕ, zero, suc, List, [], ◌∷◌, ◌++◌, drop, replicate, set, refl, arith, ◌+◌, ◌<◌, ◌≤◌, Bool, true, nat_le, nat_eq}
 use Rattle.std.specs.Prelude.{ℤ, pos, negsuc, ◌+ℤ◌, ◌*ℤ◌}
 use Rattle.std.specs.List.{list_all}
 use Rattle.std.specs.Cmp.{first_so, second_so}
 use Rattle.std.specs.Cmp.Derive.{both_true}
 use Rattle.std.proofs.lemmas.Bool.Decides.{nat_tests}
 use Rattle.std.specs.declared.cmp.Ordering.TheVariants.{Less, Equal, Greater}
-use Rattle.poly_model.specs.Polynomial.{Entry, Polynomial, monomial_cmp, with_entry, add_entry, add_multiple, exponents_sum, poly_sum, poly_negative, poly_difference, poly_product, poly_scaled, is_over}
+use Rattle.poly_model.specs.Polynomial.{Polynomial, monomial_cmp, with_entry, add_entry, add_multiple, exponents_sum, poly_sum, poly_negative, poly_product, poly_scaled, is_over}
 use Rattle.poly_model.specs.Content.{entries_divided}
 use Rattle.poly_model.specs.Standard.{polynomial_of}
 use Rattle.poly_model.specs.declared.term.Term.{Term}

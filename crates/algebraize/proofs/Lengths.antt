@@ -1,9 +1,9 @@
 -- How many terms sums, products and vectors have.
-use Rattle.std.proofs.Common.{◌≡◌, ℕ, ◌+◌, ◌*◌, ◌≤◌, zero, suc, List, [], ◌∷◌, length, refl, sym, ◌∙◌, ap, subst, arith}
+use Rattle.std.proofs.Common.{◌≡◌, ℕ, ◌+◌, ◌*◌, ◌≤◌, zero, suc, List, [], ◌∷◌, length, refl, sym, ap, subst, arith}
 use Rattle.std.specs.Prelude.{ℤ, pos, negsuc, ◌+ℤ◌, ◌*ℤ◌}
 use Rattle.std.specs.declared.cmp.Ordering.TheVariants.{Less, Equal, Greater}
 use Rattle.poly_model.specs.Domain.{integer_in}
-use Rattle.poly_model.specs.Polynomial.{Entry, Polynomial, monomial_cmp, with_entry, add_entry, add_multiple, exponents_sum, poly_sum, poly_negative, poly_difference, poly_product, poly_constant}
+use Rattle.poly_model.specs.Polynomial.{Entry, Polynomial, monomial_cmp, with_entry, add_entry, add_multiple, exponents_sum, poly_sum, poly_product}
 use Rattle.poly_model.specs.Values.{monomial_cmp-self}
 use Rattle.poly_model.specs.declared.limits.TheConstants.{MOST_VARIABLES}
 use Rattle.poly_model.proofs.Order.{exponents_sum-comm}
@@ -70,7 +70,7 @@ square-two e f a b =
     let last = add_entry (exponents_sum f f) (b *ℤ b) [] in
     let both = add_entry (exponents_sum f e) (b *ℤ a) last in
     let again : length (add_entry (exponents_sum e f) (a *ℤ b) both) ≤ suc (length last)
-        = subst (λ g. length (add_entry g (a *ℤ b) both) ≤ suc (length last)) (exponents_sum-comm f e) (length-again (exponents_sum f e) (a *ℤ b) (b *ℤ a) last) in
+    = subst (λ g. length (add_entry g (a *ℤ b) both) ≤ suc (length last)) (exponents_sum-comm f e) (length-again (exponents_sum f e) (a *ℤ b) (b *ℤ a) last) in
     omega (arith, length-add_entry (exponents_sum e e) (a *ℤ a) (add_entry (exponents_sum e f) (a *ℤ b) both), again, length-add_entry (exponents_sum f f) (b *ℤ b) [])
 
 pub square-terms : (p : Polynomial) → length p ≤ 2 → length (poly_product p p) ≤ 3

@@ -1,10 +1,9 @@
 -- What the equations of a figure mean: the value of an expression over the coordinates is the expression over the values.
-use Rattle.std.proofs.Common.{◌≡◌, ◌≤◌, ◌<◌, ℕ, List, [], ◌∷◌, ◌++◌, map, length, refl, sym, ◌∙◌, ap, arith, subst}
+use Rattle.std.proofs.Common.{◌≡◌, ◌≤◌, ℕ, List, [], ◌∷◌, ◌++◌, map, length, refl, sym, ◌∙◌, ap, arith}
 use Rattle.std.specs.Prelude.{◌↔◌, pos}
 use Rattle.poly_model.specs.Domain.{Operations, IsDomain}
 use Rattle.poly_model.specs.Polynomial.{Polynomial, value_at}
 use Rattle.poly_model.specs.Values as values
-use Rattle.poly_model.specs.Content.{primitive_part}
 use Rattle.poly_model.specs.Zeros.{AllZero}
 use Rattle.poly_model.specs.declared.limits.TheConstants.{MOST_VARIABLES}
 use Rattle.poly_model.proofs.Contents.{AllZero-primitive_parts}
@@ -13,7 +12,7 @@ use Rattle.gcl_names.specs.declared.program.Act.{Act}
 use Rattle.algebraize.specs.declared.layout.Coordinate.{Coordinate}
 use Rattle.algebraize.specs.declared.layout.Coordinate.TheVariants as coordinate
 use Rattle.algebraize.specs.Curves.{Curves, no_curves}
-use Rattle.algebraize.specs.Figure.{Figure, effect, conditions, with_effect, conditions_from, conclusion, AreZero, MeetsFrom, Meets}
+use Rattle.algebraize.specs.Figure.{Figure, effect, conditions, with_effect, conditions_from, conclusion, AreZero, MeetsFrom}
 use Rattle.algebraize.specs.Layout.{IsBelow, AreBelow, layout_of, coordinate_at, place_at, figure_at}
 use Rattle.algebraize.specs.Equations.{polynomials, coordinate_polynomial, places_of, general_figure, expressions_of, equations_of, Mean}
 use Rattle.algebraize.proofs.Places.{coordinates_own}

@@ -1,6 +1,6 @@
 -- Each condition says what its law says.
-use Rattle.std.proofs.Common.{◌≡◌, ℕ, List, [], ◌∷◌, refl, sym, ◌∙◌, ap}
-use Rattle.std.specs.Prelude.{◌↔◌, ℤ, pos}
+use Rattle.std.proofs.Common.{◌≡◌, [], ◌∷◌, refl, sym, ◌∙◌, ap}
+use Rattle.std.specs.Prelude.{◌↔◌, pos}
 use Rattle.poly_model.specs.Domain.{Operations, IsCommutativeRing, integer_in}
 use Rattle.poly_model.specs.Ring as ring
 use Rattle.poly_model.specs.Solve.{Expression, Var, Add, Mul, Neg, solve}
@@ -9,7 +9,7 @@ use Rattle.algebraize.specs.Curves.{line_at, circle_at}
 use Rattle.algebraize.specs.Ratio.{numerator, denominator}
 use Rattle.algebraize.specs.Figure.{place_of, AreZero}
 use Rattle.algebraize.specs.Rows as row
-use Rattle.algebraize.specs.Laws.{SameSlope, RightAngle, SameDistance, OppositeAlong, MirrorImages, LineLaws, MidpointLaw, TranslateLaw, TowardsLaw, IntersecLaw, FootLaw, OnlineLaw, OncircleLaw, CutLineLaw, CutCircleLaw, StatementLaws}
+use Rattle.algebraize.specs.Laws.{SameSlope, RightAngle, OppositeAlong, LineLaws, MidpointLaw, TranslateLaw, TowardsLaw, IntersecLaw, FootLaw, OnlineLaw, OncircleLaw, CutLineLaw, CutCircleLaw, StatementLaws}
 
 module _ {M : Type 0} {o : Operations M} (L : IsCommutativeRing o) where
   difference-zero : (x y : M) → o.add x (o.neg y) ≡ o.zero ↔ (x ≡ y)

@@ -1,9 +1,9 @@
 -- The equations of a figure are over the variables of its layout.
-use Rattle.std.proofs.Common.{◌≡◌, ◌<◌, ℕ, zero, suc, List, [], ◌∷◌, length, map, refl, true, arith, sym, ◌∙◌, ap}
+use Rattle.std.proofs.Common.{◌≡◌, ℕ, List, [], ◌∷◌, length, map, refl, true}
 use Rattle.std.specs.List.{list_all}
 use Rattle.std.specs.Cmp.Derive.{both_true}
 use Rattle.poly_model.specs.Domain.{Operations}
-use Rattle.poly_model.specs.Polynomial.{Polynomial, is_over, poly_variable}
+use Rattle.poly_model.specs.Polynomial.{Polynomial, is_over}
 use Rattle.poly_model.specs.Content.{primitive_part, begins_negative, coefficients_gcd}
 use Rattle.poly_model.specs.declared.limits.TheConstants.{MOST_VARIABLES}
 use Rattle.gcl_reader.specs.declared.word.Statement.{Statement}
@@ -11,7 +11,7 @@ use Rattle.gcl_names.specs.declared.program.Act.{Act}
 use Rattle.algebraize.specs.declared.layout.Coordinate.{Coordinate}
 use Rattle.algebraize.specs.declared.layout.Coordinate.TheVariants as coordinate
 use Rattle.algebraize.specs.Curves.{no_curves}
-use Rattle.algebraize.specs.Figure.{Figure, conditions_from, conclusion}
+use Rattle.algebraize.specs.Figure.{conclusion}
 use Rattle.algebraize.specs.Layout.{IsBelow, AreBelow, layout_of}
 use Rattle.algebraize.specs.Equations.{polynomials, coordinate_polynomial, places_of, general_figure, expressions_of, hypotheses_of, conclusions_of}
 use Rattle.algebraize.proofs.Every.{every-sum, every-negative, every-divided, is_over-product, none_from, none_from-none, none_from-one}

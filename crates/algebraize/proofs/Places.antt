@@ -1,5 +1,5 @@
 -- The coordinates of a layout are zero or one of its variables.
-use Rattle.std.proofs.Common.{rules, ◌≤◌, ◌==◌, ℕ, List, [], ◌∷◌, ◌++◌, length, arith, true, false, if◌then◌else◌, length-append}
+use Rattle.std.proofs.Common.{◌≤◌, ◌==◌, ℕ, List, [], ◌∷◌, ◌++◌, length, arith, true, false, if◌then◌else◌, length-append}
 use Rattle.gcl_names.specs.declared.program.Act.{Act}
 use Rattle.algebraize.specs.declared.layout.Coordinate.{Coordinate}
 use Rattle.algebraize.specs.declared.layout.Coordinate.TheVariants as coordinate

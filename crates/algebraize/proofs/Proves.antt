@@ -1,5 +1,5 @@
 -- Layouts, and the prove of a number.
-use Rattle.std.proofs.Common.{append_assoc, append-nil, rules, ◌≡◌, ◌≤◌, ◌<◌, ◌+◌, ◌-◌, ◌==◌, ℕ, zero, suc, List, [], ◌∷◌, ◌++◌, length, get_or, drop, refl, sym, ◌∙◌, ap, subst, arith, Result, Ok, Err, IfOk, Bool, true, false, ◌&&◌, if◌then◌else◌, nat_le, nat_eq, length-append, add-one}
+use Rattle.std.proofs.Common.{append_assoc, append-nil, ◌≡◌, ◌≤◌, ◌<◌, ◌+◌, ◌-◌, ◌==◌, ℕ, zero, suc, List, [], ◌∷◌, ◌++◌, length, get_or, drop, refl, sym, ◌∙◌, ap, subst, arith, Result, Ok, Err, IfOk, true, false, if◌then◌else◌, nat_le, nat_eq, length-append, add-one}
 use Rattle.std.proofs.lemmas.Bool.Decides.{nat_tests}
 use Rattle.std.specs.Cmp.{first_so, second_so}
 use Rattle.std.specs.Cmp.Derive.{both_true}
@@ -14,7 +14,6 @@ use Rattle.poly_model.specs.Domain.{Operations}
 use Rattle.proof_steps.specs.declared.problem.Problem.{Problem}
 use Rattle.algebraize.specs.Formed.{equations}
 use Rattle.gcl_reader.specs.declared.refusal.Refusal.{Refusal}
-use Rattle.gcl_reader.specs.declared.refusal.Kind.TheVariants as kind
 use Rattle.gcl_reader.specs.declared.word.Statement.{Statement}
 use Rattle.gcl_names.specs.declared.program.Act.{Act}
 use Rattle.gcl_names.specs.declared.program.Deed.{Deed}

@@ -1,6 +1,6 @@
 -- What holds of the members of a figure holds of all that is made of them: a relation that the operations keep is kept by
 -- every formula, line, effect and statement.
-use Rattle.std.proofs.Common.{rules, ◌≡◌, ℕ, zero, suc, List, [], ◌∷◌, ◌++◌, get_or, map}
+use Rattle.std.proofs.Common.{rules, ℕ, zero, suc, List, [], ◌∷◌, ◌++◌, get_or, map}
 use Rattle.std.specs.Prelude.{ℤ, pos, negsuc}
 use Rattle.poly_model.specs.Domain.{Operations, natural_in, integer_in}
 use Rattle.gcl_reader.specs.declared.word.Statement.{Statement}
@@ -8,11 +8,11 @@ use Rattle.gcl_reader.specs.declared.word.Statement.TheVariants as statement
 use Rattle.gcl_names.specs.declared.program.Act.{Act}
 use Rattle.gcl_names.specs.declared.program.Deed.{Deed}
 use Rattle.gcl_names.specs.declared.program.Deed.TheVariants as deed
-use Rattle.algebraize.specs.Vectors.{Vector, coordinates, plus, minus, twice, times, dot, cross, rot, sq_difference}
-use Rattle.algebraize.specs.Curves.{Line, Circle, Curves, line_at, circle_at, no_line, no_circle, no_curves, line_along, line_through, line_across, bisector}
+use Rattle.algebraize.specs.Vectors.{Vector, plus, minus, times, dot, cross, rot, sq_difference}
+use Rattle.algebraize.specs.Curves.{Line, Circle, Curves, no_line, no_circle, no_curves, line_along, line_across, bisector}
 use Rattle.algebraize.specs.Ratio.{numerator, denominator}
 use Rattle.algebraize.specs.Rows as row
-use Rattle.algebraize.specs.Figure.{Figure, Effect, Nothing, NewLine, NewCircle, Conditions, effect, conditions, with_effect, conditions_from, place_of, stated, over_two, over_three, over_four, conclusion, impossible}
+use Rattle.algebraize.specs.Figure.{Figure, Effect, Nothing, NewLine, NewCircle, Conditions, effect, conditions, with_effect, conditions_from, place_of, stated, over_two, over_three, over_four, conclusion}
 
 -- The relation is kept by the operations.
 pub record IsKept {M N : Type 0} (o : Operations M) (k : Operations N) (R : M → N → Type 0) : Type 0 where

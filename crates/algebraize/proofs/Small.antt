@@ -1,5 +1,5 @@
 -- Sums, negatives, products and primitive parts of small polynomials are small.
-use Rattle.std.proofs.Common.{◌≡◌, ◌≢◌, ℕ, ◌+◌, ◌*◌, ◌/◌, ◌<◌, ◌≤◌, zero, suc, List, [], ◌∷◌, ◌++◌, length, get_or, replicate, set, refl, sym, ◌∙◌, ap, subst, arith, IsTrue, ◌&&◌, Bool, true, false, nat_le, nat_lt, nat_eq}
+use Rattle.std.proofs.Common.{◌≡◌, ◌≢◌, ℕ, ◌+◌, ◌*◌, ◌/◌, ◌<◌, ◌≤◌, zero, suc, List, [], ◌∷◌, ◌++◌, length, get_or, refl, ap, arith, Bool, true, false, nat_le, nat_lt, nat_eq}
 use Rattle.std.specs.Prelude.{ℤ, pos, negsuc, ◌+ℤ◌, ◌*ℤ◌, neg_ℤ, unsigned_abs}
 use Rattle.std.specs.Cmp.{first_so, second_so}
 use Rattle.std.specs.Cmp.Derive.{both_true}
@@ -7,12 +7,11 @@ use Rattle.std.proofs.lemmas.Int.{ints}
 use Rattle.std.proofs.lemmas.Bool.Decides.{nat_tests}
 use mir.Syntax.{w128}
 use mir.Val.{SFits}
-use Rattle.std.proofs.Math.ListN.{length-set}
 use Rattle.std.specs.Ordering.{is_gt}
 use Rattle.std.specs.declared.cmp.Ordering.TheVariants.{Less, Equal, Greater}
-use Rattle.poly_model.specs.Polynomial.{Entry, Polynomial, poly_scaled, monomial_cmp, IsAbove, IsDescending, with_entry, add_entry, add_multiple, exponents_sum, poly_sum, poly_negative, poly_difference, poly_product, poly_constant, poly_variable}
-use Rattle.poly_model.specs.Content.{content, coefficients_gcd, begins_negative, signed_by, quotient_of, entries_divided, primitive_part}
-use Rattle.poly_model.specs.Standard.{polynomial_of, are_low, is_above, is_within, are_descending, is_standard}
+use Rattle.poly_model.specs.Polynomial.{Entry, Polynomial, monomial_cmp, IsAbove, IsDescending, with_entry, add_entry, add_multiple, exponents_sum, poly_sum, poly_negative, poly_difference, poly_product, poly_constant, poly_variable}
+use Rattle.poly_model.specs.Content.{coefficients_gcd, begins_negative, signed_by, quotient_of, entries_divided, primitive_part}
+use Rattle.poly_model.specs.Standard.{polynomial_of, are_low, is_above, are_descending, is_standard}
 use Rattle.poly_model.specs.declared.term.Term.{Term}
 use Rattle.poly_model.specs.declared.limits.TheConstants.{MOST_DEGREE, MOST_SIZE, MOST_TERMS, MOST_VARIABLES}
 use Rattle.poly_model.proofs.Ordered.{descending-sum, descending-negative, descending-product, descending-variable, descending-constant, descending-primitive_part}

@@ -1,5 +1,5 @@
 -- What a program states: how many terms its expressions have, how many they are, and that each is its own primitive part.
-use Rattle.std.proofs.Common.{IsTrue, rules, ◌≡◌, ◌<◌, ◌≤◌, ◌+◌, ◌==◌, ℕ, zero, suc, List, [], ◌∷◌, ◌++◌, length, get_or, map, refl, sym, ◌∙◌, ap, subst, arith, true, false, if◌then◌else◌, nat_le, length-append}
+use Rattle.std.proofs.Common.{IsTrue, rules, ◌≡◌, ◌<◌, ◌≤◌, ◌+◌, ◌==◌, ℕ, zero, suc, List, [], ◌∷◌, ◌++◌, length, get_or, map, refl, sym, ◌∙◌, ap, subst, arith, true, false, if◌then◌else◌, length-append}
 use Rattle.std.specs.List.{list_all}
 use Rattle.std.specs.Prelude.{pos}
 use Rattle.std.specs.Cmp.Derive.{both_true}
@@ -23,12 +23,12 @@ use Rattle.algebraize.specs.declared.layout.Coordinate.{Coordinate}
 use Rattle.algebraize.specs.declared.layout.Coordinate.TheVariants as coordinate
 use Rattle.algebraize.specs.declared.new_points.NewPoints.{NewPoints}
 use Rattle.algebraize.specs.declared.new_points.NewPoints.TheVariants as new
-use Rattle.algebraize.specs.Vectors.{Vector, coordinates, plus, minus, twice, times, dot, cross}
-use Rattle.algebraize.specs.Curves.{Line, Circle, Curves, no_line, no_circle, no_curves, line_along, line_through, line_across, bisector}
+use Rattle.algebraize.specs.Vectors.{Vector, coordinates, plus, minus, twice, dot, cross}
+use Rattle.algebraize.specs.Curves.{Line, Circle, Curves, no_line, no_circle, no_curves, line_along, line_across, bisector}
 use Rattle.algebraize.specs.Ratio.{numerator, denominator}
 use Rattle.algebraize.specs.Rows as row
 use Rattle.algebraize.specs.Figure.{Figure, Effect, Nothing, NewLine, NewCircle, Conditions, effect, conditions, with_effect, conditions_from, place_of, stated, over_two, over_three, over_four, conclusion, impossible}
-use Rattle.algebraize.specs.Layout.{Layout, layout_of, layout_from, new_points, with_points, free_point, dependent_point, empty, with_u, with_place, next}
+use Rattle.algebraize.specs.Layout.{Layout, layout_of, layout_from, new_points, with_points, empty, with_u, with_place, next}
 use Rattle.algebraize.specs.Formed.{equations}
 use Rattle.algebraize.specs.Equations.{Equations, equations_of, polynomials, coordinate_polynomial, places_of, general_figure, expressions_of, hypotheses_of, conclusions_of}
 use Rattle.algebraize.proofs.Lengths.{Within, within-plus, within-minus, within-twice, within-times, within-rot, dot-terms, cross-terms, sq_difference-terms}
@@ -314,10 +314,10 @@ within-points new.Free l h =
     else (if l.frees == 1 then with_place (next l) coordinate.Zero (record (with_u l) { frees = 2 }) else with_place (next l) (next (with_u l)) (with_u (with_u l)))).variables) [
       | true ↦ h
       | false ↦ elim (l.frees == 1) as (λ b. (if b then with_place (next l) coordinate.Zero (record (with_u l) { frees = 2 }) else with_place (next l) (next (with_u l)) (with_u (with_u l))).xs
-        ≤ length (if b then with_place (next l) coordinate.Zero (record (with_u l) { frees = 2 }) else with_place (next l) (next (with_u l)) (with_u (with_u l))).variables) [
-        | true ↦ simp length-append (omega arith)
-        | false ↦ simp length-append (omega arith)
-      ]
+          ≤ length (if b then with_place (next l) coordinate.Zero (record (with_u l) { frees = 2 }) else with_place (next l) (next (with_u l)) (with_u (with_u l))).variables) [
+            | true ↦ simp length-append (omega arith)
+            | false ↦ simp length-append (omega arith)
+          ]
     ]
 within-points new.SemiFree l h = simp length-append (omega arith)
 within-points new.Dependent l h = simp length-append (omega arith)

@@ -1,5 +1,5 @@
 -- What the code's figures and problems stand for.
-use Rattle.std.specs.Prelude.{◌≡◌, ℕ, length, map, Bool, ◌&&◌, IsTrue, ◌≤◌}
+use Rattle.std.specs.Prelude.{◌≡◌, length, map, Bool, ◌&&◌}
 use Rattle.std.specs.List.{list_all}
 use Rattle.poly_model.specs.Content.{primitive_part}
 use Rattle.poly_model.specs.Polynomial.{Polynomial, is_over}

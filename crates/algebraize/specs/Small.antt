@@ -1,5 +1,5 @@
 -- How small the polynomials of a figure are: their degrees, and the sizes of their coefficients.
-use Rattle.std.specs.Prelude.{ℕ, ◌+◌, ◌≤◌, List, [], ◌∷◌, Bool, IsTrue, nat_le, length, unsigned_abs}
+use Rattle.std.specs.Prelude.{ℕ, ◌+◌, ◌≤◌, List, [], ◌∷◌, Bool, IsTrue, nat_le, unsigned_abs}
 use Rattle.std.specs.List.{list_all}
 use Rattle.poly_model.specs.Polynomial.{Polynomial}
 use Rattle.poly_model.specs.Standard.{is_standard}

@@ -106,7 +106,8 @@ impl Figure {
 
     fn circle_through(&self, alloc: Global, centre: u32, through: u32) -> Result<Circle, AllocError>
         requires { HasDefaults self.now }
-        ensures { IfOk result (λ k. k ≡ circle_through polynomials self.now.places.items centre through) }
+        ensures { IfOk result (λ k. k
+            ≡ circle_through polynomials self.now.places.items centre through) }
     {
         Ok(Circle::new(
             self.place(centre).copy(alloc)?,
@@ -118,7 +119,8 @@ impl Figure {
     pub fn effect(&self, alloc: Global, deed: &Deed) -> Result<Effect, AllocError>
         requires { HasDefaults self.now }
         ensures { IfOk result (λ e. effect_of e
-            ≡ primitive_effect (effect polynomials self.now.places.items (curves_of self.now) deed.now)) }
+            ≡ primitive_effect (effect polynomials self.now.places.items
+            (curves_of self.now) deed.now)) }
     {
         match deed {
             Deed::Line(_, a, b) => Ok(Effect::NewLine(Line::through(
@@ -224,9 +226,11 @@ impl Figure {
     /// The lines and circles with what a command makes; its conditions are added to the equations.
     pub fn take(&mut self, effect: Effect, equations: &mut Vec<OwnedPoly>) -> Result<(), AllocError>
         ensures places { OnOk result (self.new.places.items ≡ self.old.places.items) }
-        ensures curves { OnOk result (curves_of self.new ≡ with_effect (effect_of effect) (curves_of self.old)) }
+        ensures curves { OnOk result (curves_of self.new
+            ≡ with_effect (effect_of effect) (curves_of self.old)) }
         ensures defaults { HasDefaults self.old → OnOk result (HasDefaults self.new) }
-        ensures equations { OnOk result (equations.new.items ≡ equations.old.items ++ conditions (effect_of effect)) }
+        ensures equations { OnOk result (equations.new.items
+            ≡ equations.old.items ++ conditions (effect_of effect)) }
     {
         match effect {
             Effect::Nothing => {}
@@ -250,7 +254,8 @@ impl Figure {
     ) -> Result<Vec<OwnedPoly>, AllocError>
         requires { HasDefaults self.now }
         ensures { IfOk result (λ ps. ps.items
-            ≡ map primitive_part (conclusion polynomials self.now.places.items statement points.now)) }
+            ≡ map primitive_part (conclusion polynomials self.now.places.items statement
+            points.now)) }
     {
         match statement {
             Statement::Identical => match points {

@@ -13,7 +13,8 @@ use poly_model::Domain;
 
 /// At each point of a domain's space, the equations are zero exactly where the figure there meets what they stand for.
 pub fn equations_mean_their_figure<D: Domain>(_d: &D)
-    ensures { (acts : List Act) (s : Statement) (points : List ℕ) → length (layout_of acts).variables ≤ MOST_VARIABLES
+    ensures { (acts : List Act) (s : Statement) (points : List ℕ)
+        → length (layout_of acts).variables ≤ MOST_VARIABLES
         → Mean D.operations acts s points (equations_of acts s points) }
 {}
 

@@ -38,9 +38,16 @@ impl Model for Layout {
 
     ghost Value = { Layout };
 
-    ghost view = { λ l. record { places = l.places.items; variables = l.variables.items; frees = l.frees; us = l.us; xs = l.xs } };
+    ghost view = { λ l. record {
+      places = l.places.items;
+      variables = l.variables.items;
+      frees = l.frees;
+      us = l.us;
+      xs = l.xs;
+    } };
 
-    ghost invariant = { λ l. (l.us + l.xs ≡ length l.variables.items) × (length l.variables.items ≤ MOST_VARIABLES) × (l.frees ≤ 2) };
+    ghost invariant = { λ l. (l.us + l.xs ≡ length l.variables.items)
+        × (length l.variables.items ≤ MOST_VARIABLES) × (l.frees ≤ 2) };
 }
 
 impl Layout {
@@ -153,7 +160,8 @@ impl Layout {
 
     /// How many variables points take.
     fn wanted(&self, points: NewPoints) -> usize
-        ensures { length (with_points points self.now).variables ≡ length self.now.variables + result }
+        ensures { length (with_points points self.now).variables
+            ≡ length self.now.variables + result }
     {
         match points {
             NewPoints::NoPoint => 0,

@@ -40,7 +40,8 @@ fn all_divided(
 ) -> Result<Vec<Term>, AllocError>
     requires divisor { 0 < divisor }
     requires terms { weight (polynomial_of terms.now) ≤ MOST_SIZE }
-    ensures { IfOk result (λ r. polynomial_of r.items ≡ entries_divided turned divisor (polynomial_of terms.now)) }
+    ensures { IfOk result (λ r. polynomial_of r.items
+        ≡ entries_divided turned divisor (polynomial_of terms.now)) }
 {
     let mut quotients = Vec::new(alloc);
     let mut rest = terms;

@@ -103,7 +103,8 @@ pub fn system_of<D: Domain>(
     requires sound { IsSound program.now }
     requires prove { prove < program.now.proves }
     ensures value { Gives equations result (problem_of program.now.acts prove) }
-    ensures mean { IfOk result (λ problem. MeanProve D.operations program.now.acts prove (equations problem)) }
+    ensures mean { IfOk result (λ problem. MeanProve D.operations program.now.acts prove
+        (equations problem)) }
     ensures own { IfOk result (λ problem. IsTrue (is_own problem)) }
     ensures stated { IfOk result (λ problem. IsStated problem) }
 {
@@ -125,7 +126,8 @@ pub fn system_of<D: Domain>(
 /// The problems of all proves of a sound program, in their order, or the first refusal.
 pub fn problems(alloc: Global, program: &Program) -> Result<Vec<Problem>, GclFault>
     requires { IsSound program.now }
-    ensures value { Gives (λ problems. map equations problems.items) result (problems_of program.now.acts) }
+    ensures value { Gives (λ problems. map equations problems.items) result
+        (problems_of program.now.acts) }
     ensures own { IfOk result (λ problems. IsTrue (list_all is_own problems.items)) }
     ensures stated { IfOk result (λ problems. All IsStated problems.items) }
 {

@@ -41,7 +41,8 @@ fn equations(alloc: Global, expressions: &[Quadratic]) -> Result<Vec<OwnedPoly>,
 
 /// A and B are the same.
 pub fn identical(alloc: Global, a: &Place, b: &Place) -> Result<Vec<OwnedPoly>, AllocError>
-    ensures { IfOk result (λ ps. ps.items ≡ map primitive_part (row.identical polynomials a.now b.now)) }
+    ensures { IfOk result (λ ps. ps.items
+        ≡ map primitive_part (row.identical polynomials a.now b.now)) }
 {
     both(alloc, &a.minus(alloc, b)?)
 }
@@ -53,7 +54,8 @@ pub fn collinear(
     b: &Place,
     c: &Place,
 ) -> Result<Vec<OwnedPoly>, AllocError>
-    ensures { IfOk result (λ ps. ps.items ≡ map primitive_part (row.collinear polynomials a.now b.now c.now)) }
+    ensures { IfOk result (λ ps. ps.items
+        ≡ map primitive_part (row.collinear polynomials a.now b.now c.now)) }
 {
     let on = cross(alloc, &b.minus(alloc, a)?, &c.minus(alloc, a)?)?;
     equations(alloc, &[on])
@@ -96,7 +98,8 @@ pub fn midpoint(
     a: &Place,
     b: &Place,
 ) -> Result<Vec<OwnedPoly>, AllocError>
-    ensures { IfOk result (λ ps. ps.items ≡ map primitive_part (row.midpoint polynomials m.now a.now b.now)) }
+    ensures { IfOk result (λ ps. ps.items
+        ≡ map primitive_part (row.midpoint polynomials m.now a.now b.now)) }
 {
     both(alloc, &off_midpoint(alloc, m, a, b)?)
 }
@@ -123,7 +126,8 @@ pub fn intersection(
     a: &Line,
     b: &Line,
 ) -> Result<Vec<OwnedPoly>, AllocError>
-    ensures { IfOk result (λ ps. ps.items ≡ map primitive_part (row.intersection x.now (line_of a.now) (line_of b.now))) }
+    ensures { IfOk result (λ ps. ps.items
+        ≡ map primitive_part (row.intersection x.now (line_of a.now) (line_of b.now))) }
 {
     let on_a = a.incidence(alloc, x)?;
     let on_b = b.incidence(alloc, x)?;
@@ -132,7 +136,8 @@ pub fn intersection(
 
 /// F is on the line, and AF is perpendicular to it.
 pub fn foot(alloc: Global, f: &Place, a: &Place, line: &Line) -> Result<Vec<OwnedPoly>, AllocError>
-    ensures { IfOk result (λ ps. ps.items ≡ map primitive_part (row.foot polynomials f.now a.now (line_of line.now))) }
+    ensures { IfOk result (λ ps. ps.items
+        ≡ map primitive_part (row.foot polynomials f.now a.now (line_of line.now))) }
 {
     let on = line.incidence(alloc, f)?;
     let across = dot(alloc, line.direction(), &f.minus(alloc, a)?)?;
@@ -141,7 +146,8 @@ pub fn foot(alloc: Global, f: &Place, a: &Place, line: &Line) -> Result<Vec<Owne
 
 /// X is on the line AB.
 pub fn on_line(alloc: Global, x: &Place, a: &Place, b: &Place) -> Result<Vec<OwnedPoly>, AllocError>
-    ensures { IfOk result (λ ps. ps.items ≡ map primitive_part (row.on_line polynomials x.now a.now b.now)) }
+    ensures { IfOk result (λ ps. ps.items
+        ≡ map primitive_part (row.on_line polynomials x.now a.now b.now)) }
 {
     let on = cross(alloc, &b.minus(alloc, a)?, &x.minus(alloc, a)?)?;
     equations(alloc, &[on])
@@ -149,7 +155,8 @@ pub fn on_line(alloc: Global, x: &Place, a: &Place, b: &Place) -> Result<Vec<Own
 
 /// X is on a circle.
 pub fn on_circle(alloc: Global, x: &Place, circle: &Circle) -> Result<Vec<OwnedPoly>, AllocError>
-    ensures { IfOk result (λ ps. ps.items ≡ map primitive_part (row.on_circle polynomials x.now circle.now ∷ [])) }
+    ensures { IfOk result (λ ps. ps.items
+        ≡ map primitive_part (row.on_circle polynomials x.now circle.now ∷ [])) }
 {
     let on = circle.incidence(alloc, x)?;
     equations(alloc, &[on])

@@ -14,7 +14,8 @@ use poly_text::{print_poly, write_variable};
 use proof_steps::Problem;
 
 fn write_name<S: Sink>(name: VarName, pen: &mut Pen, sink: &mut S) -> Result<(), Failed>
-    ensures bytes { Writes (S.written sink.old) (S.written sink.new) pen.old pen.new result (name_text name) }
+    ensures bytes { Writes (S.written sink.old) (S.written sink.new) pen.old pen.new result
+        (name_text name) }
     ensures cause { HasCause (S.faults sink.old) (S.faults sink.new) result }
 {
     pen.push(sink, b" ")?;
@@ -22,7 +23,8 @@ fn write_name<S: Sink>(name: VarName, pen: &mut Pen, sink: &mut S) -> Result<(),
 }
 
 fn write_names<S: Sink>(vars: &Vars, pen: &mut Pen, sink: &mut S) -> Result<(), Failed>
-    ensures bytes { Writes (S.written sink.old) (S.written sink.new) pen.old pen.new result (names_text vars.now) }
+    ensures bytes { Writes (S.written sink.old) (S.written sink.new) pen.old pen.new result
+        (names_text vars.now) }
     ensures cause { HasCause (S.faults sink.old) (S.faults sink.new) result }
 {
     for i in 0..vars.len() {
@@ -40,7 +42,8 @@ fn write_polynomial<S: Sink>(
     sink: &mut S,
 ) -> Result<(), Failed>
     requires { IsTrue (is_over (length vars.now) p.now) }
-    ensures bytes { Writes (S.written sink.old) (S.written sink.new) pen.old pen.new result (polynomial_line word.now vars.now p.now) }
+    ensures bytes { Writes (S.written sink.old) (S.written sink.new) pen.old pen.new result
+        (polynomial_line word.now vars.now p.now) }
     ensures cause { HasCause (S.faults sink.old) (S.faults sink.new) result }
 {
     pen.push(sink, word)?;
@@ -56,7 +59,8 @@ fn write_polynomials<S: Sink>(
     sink: &mut S,
 ) -> Result<(), Failed>
     requires { IsTrue (list_all (is_over (length vars.now)) polynomials.now) }
-    ensures bytes { Writes (S.written sink.old) (S.written sink.new) pen.old pen.new result (polynomial_lines word.now vars.now polynomials.now) }
+    ensures bytes { Writes (S.written sink.old) (S.written sink.new) pen.old pen.new result
+        (polynomial_lines word.now vars.now polynomials.now) }
     ensures cause { HasCause (S.faults sink.old) (S.faults sink.new) result }
 {
     let mut rest = polynomials;
@@ -74,7 +78,8 @@ fn write_head<S: Sink>(
     pen: &mut Pen,
     sink: &mut S,
 ) -> Result<(), Failed>
-    ensures bytes { Writes (S.written sink.old) (S.written sink.new) pen.old pen.new result (codes "prove " ++ decimal number ++ codes "\nvars" ++ names_text vars.now) }
+    ensures bytes { Writes (S.written sink.old) (S.written sink.new) pen.old pen.new result
+        (codes "prove " ++ decimal number ++ codes "\nvars" ++ names_text vars.now) }
     ensures cause { HasCause (S.faults sink.old) (S.faults sink.new) result }
 {
     pen.push(sink, b"prove ")?;
@@ -91,7 +96,8 @@ fn write_problem<S: Sink>(
     sink: &mut S,
 ) -> Result<(), Failed>
     requires { IsTrue (is_own problem.now) }
-    ensures bytes { Writes (S.written sink.old) (S.written sink.new) pen.old pen.new result (problem_text number (equations problem.now)) }
+    ensures bytes { Writes (S.written sink.old) (S.written sink.new) pen.old pen.new result
+        (problem_text number (equations problem.now)) }
     ensures cause { HasCause (S.faults sink.old) (S.faults sink.new) result }
 {
     write_head(number, &problem.vars, pen, sink)?;
@@ -108,7 +114,8 @@ pub fn write_system<S: Sink>(
     sink: &mut S,
 ) -> Result<(), Failed>
     requires { IsTrue (list_all is_own problems.now) }
-    ensures bytes { Writes (S.written sink.old) (S.written sink.new) pen.old pen.new result (system_text (map equations problems.now)) }
+    ensures bytes { Writes (S.written sink.old) (S.written sink.new) pen.old pen.new result
+        (system_text (map equations problems.now)) }
     ensures cause { HasCause (S.faults sink.old) (S.faults sink.new) result }
 {
     let mut number = 1;

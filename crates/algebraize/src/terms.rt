@@ -14,7 +14,8 @@ use std::alloc::{AllocError, Global};
 /// The variable at a place.
 pub fn variable(alloc: Global, place: u8) -> Result<Vec<Term>, AllocError>
     requires { place < MOST_VARIABLES }
-    ensures { IfOk result (λ terms. polynomial_of terms.items ≡ poly_variable MOST_VARIABLES place) }
+    ensures { IfOk result (λ terms. polynomial_of terms.items
+        ≡ poly_variable MOST_VARIABLES place) }
 {
     let mut exps = [0; MOST_VARIABLES];
     exps[place as usize] = 1;
@@ -25,7 +26,8 @@ pub fn variable(alloc: Global, place: u8) -> Result<Vec<Term>, AllocError>
 
 /// The constant 1.
 pub fn constant_one(alloc: Global) -> Result<Vec<Term>, AllocError>
-    ensures { IfOk result (λ terms. polynomial_of terms.items ≡ poly_constant MOST_VARIABLES (pos 1)) }
+    ensures { IfOk result (λ terms. polynomial_of terms.items
+        ≡ poly_constant MOST_VARIABLES (pos 1)) }
 {
     let mut terms = Vec::new(alloc);
     terms.push(Term {
@@ -70,7 +72,8 @@ fn stands_at(terms: &[Term], place: usize, exps: &[u8; MOST_VARIABLES]) -> bool
 fn add_coefficient(terms: &mut Vec<Term>, place: usize, coef: i128)
     requires place { place < length terms.old.items }
     requires size { unsigned_abs coef + weight (polynomial_of terms.old.items) ≤ MOST_SIZE }
-    ensures { polynomial_of terms.new.items ≡ with_coefficient (polynomial_of terms.old.items) place coef }
+    ensures { polynomial_of terms.new.items
+        ≡ with_coefficient (polynomial_of terms.old.items) place coef }
 {
     let sum = coef + terms[place].coef;
     if sum == 0 {
@@ -83,7 +86,8 @@ fn add_coefficient(terms: &mut Vec<Term>, place: usize, coef: i128)
 /// Adds one term, at its place in the order.
 fn add_term(terms: &mut Vec<Term>, term: Term) -> Result<(), AllocError>
     requires { unsigned_abs term.coef + weight (polynomial_of terms.old.items) ≤ MOST_SIZE }
-    ensures { OnOk result (polynomial_of terms.new.items ≡ add_entry term.exps term.coef (polynomial_of terms.old.items)) }
+    ensures { OnOk result (polynomial_of terms.new.items
+        ≡ add_entry term.exps term.coef (polynomial_of terms.old.items)) }
 {
     let place = terms_above(terms, &term.exps);
     if stands_at(terms, place, &term.exps) {
@@ -98,7 +102,8 @@ fn add_term(terms: &mut Vec<Term>, term: Term) -> Result<(), AllocError>
 
 fn sum_onto(p: &[Term], mut q: Vec<Term>) -> Result<Vec<Term>, AllocError>
     requires { weight (polynomial_of p.now) + weight (polynomial_of q.items) ≤ MOST_SIZE }
-    ensures { IfOk result (λ r. polynomial_of r.items ≡ poly_sum (polynomial_of p.now) (polynomial_of q.items)) }
+    ensures { IfOk result (λ r. polynomial_of r.items
+        ≡ poly_sum (polynomial_of p.now) (polynomial_of q.items)) }
 {
     let mut rest = p;
     while let Some((last, front)) = rest.split_last() {
@@ -111,7 +116,8 @@ fn sum_onto(p: &[Term], mut q: Vec<Term>) -> Result<Vec<Term>, AllocError>
 /// The sum of two polynomials.
 pub fn sum(alloc: Global, p: &[Term], q: &[Term]) -> Result<Vec<Term>, AllocError>
     requires { weight (polynomial_of p.now) + weight (polynomial_of q.now) ≤ MOST_SIZE }
-    ensures { IfOk result (λ r. polynomial_of r.items ≡ poly_sum (polynomial_of p.now) (polynomial_of q.now)) }
+    ensures { IfOk result (λ r. polynomial_of r.items
+        ≡ poly_sum (polynomial_of p.now) (polynomial_of q.now)) }
 {
     sum_onto(p, Vec::from_slice(alloc, q)?)
 }
@@ -136,7 +142,8 @@ pub fn negative(alloc: Global, p: &[Term]) -> Result<Vec<Term>, AllocError>
 /// The difference of two polynomials.
 pub fn difference(alloc: Global, p: &[Term], q: &[Term]) -> Result<Vec<Term>, AllocError>
     requires { weight (polynomial_of p.now) + weight (polynomial_of q.now) ≤ MOST_SIZE }
-    ensures { IfOk result (λ r. polynomial_of r.items ≡ poly_difference (polynomial_of p.now) (polynomial_of q.now)) }
+    ensures { IfOk result (λ r. polynomial_of r.items
+        ≡ poly_difference (polynomial_of p.now) (polynomial_of q.now)) }
 {
     sum_onto(p, negative(alloc, q)?)
 }
@@ -161,7 +168,8 @@ fn scaled(alloc: Global, factor: i128, p: &[Term]) -> Result<Vec<Term>, AllocErr
 pub fn multiple(alloc: Global, factor: i128, p: &[Term]) -> Result<Vec<Term>, AllocError>
     requires descending { IsDescending MOST_VARIABLES (polynomial_of p.now) }
     requires size { unsigned_abs factor * weight (polynomial_of p.now) ≤ MOST_SIZE }
-    ensures { IfOk result (λ r. polynomial_of r.items ≡ poly_product (integer_in polynomials factor) (polynomial_of p.now)) }
+    ensures { IfOk result (λ r. polynomial_of r.items
+        ≡ poly_product (integer_in polynomials factor) (polynomial_of p.now)) }
 {
     if factor == 0 {
         return Ok(Vec::new(alloc));
@@ -171,10 +179,13 @@ pub fn multiple(alloc: Global, factor: i128, p: &[Term]) -> Result<Vec<Term>, Al
 
 /// Adds one term times a polynomial.
 fn add_multiple(sum: &mut Vec<Term>, term: &Term, q: &[Term]) -> Result<(), AllocError>
-    requires size { unsigned_abs term.now.coef * weight (polynomial_of q.now) + weight (polynomial_of sum.old.items) ≤ MOST_SIZE }
+    requires size { unsigned_abs term.now.coef * weight (polynomial_of q.now)
+        + weight (polynomial_of sum.old.items) ≤ MOST_SIZE }
     requires low { IsTrue (are_low term.now.exps) }
     requires q { IsTrue (is_low MOST_DEGREE (polynomial_of q.now)) }
-    ensures { OnOk result (polynomial_of sum.new.items ≡ add_multiple term.now.exps term.now.coef (polynomial_of q.now) (polynomial_of sum.old.items)) }
+    ensures { OnOk result (polynomial_of sum.new.items
+        ≡ add_multiple term.now.exps term.now.coef (polynomial_of q.now)
+        (polynomial_of sum.old.items)) }
 {
     let mut rest = q;
     while let Some((last, front)) = rest.split_last() {
@@ -195,7 +206,8 @@ pub fn product(alloc: Global, p: &[Term], q: &[Term]) -> Result<Vec<Term>, Alloc
     requires size { weight (polynomial_of p.now) * weight (polynomial_of q.now) ≤ MOST_SIZE }
     requires p { IsTrue (is_low MOST_DEGREE (polynomial_of p.now)) }
     requires q { IsTrue (is_low MOST_DEGREE (polynomial_of q.now)) }
-    ensures { IfOk result (λ r. polynomial_of r.items ≡ poly_product (polynomial_of p.now) (polynomial_of q.now)) }
+    ensures { IfOk result (λ r. polynomial_of r.items
+        ≡ poly_product (polynomial_of p.now) (polynomial_of q.now)) }
 {
     let mut product = Vec::new(alloc);
     let mut rest = p;

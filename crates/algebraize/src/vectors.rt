@@ -36,7 +36,8 @@ impl Model for Place {
 
     ghost view = { λ p. (polynomial_of p.x.items, polynomial_of p.y.items) };
 
-    ghost invariant = { λ p. IsSmall 1 1 (polynomial_of p.x.items) × IsSmall 1 1 (polynomial_of p.y.items) };
+    ghost invariant = { λ p. IsSmall 1 1 (polynomial_of p.x.items)
+        × IsSmall 1 1 (polynomial_of p.y.items) };
 }
 
 /// A vector between places, or a sum of such: each coordinate is linear, with coefficients of a size of at most 4
@@ -56,7 +57,8 @@ impl Model for Vector {
 
     ghost view = { λ p. (polynomial_of p.x.items, polynomial_of p.y.items) };
 
-    ghost invariant = { λ p. IsSmall 1 4 (polynomial_of p.x.items) × IsSmall 1 4 (polynomial_of p.y.items) };
+    ghost invariant = { λ p. IsSmall 1 4 (polynomial_of p.x.items)
+        × IsSmall 1 4 (polynomial_of p.y.items) };
 }
 
 /// A sum or a difference of products of vectors: of degree 2 at most in each variable, with coefficients of a size of
@@ -80,7 +82,8 @@ impl Model for Quadratic {
 
 fn coordinate_terms(alloc: Global, coordinate: Coordinate) -> Result<Vec<Term>, AllocError>
     requires { IsBelow MOST_VARIABLES coordinate }
-    ensures value { IfOk result (λ terms. polynomial_of terms.items ≡ coordinate_polynomial coordinate) }
+    ensures value { IfOk result (λ terms. polynomial_of terms.items
+        ≡ coordinate_polynomial coordinate) }
     ensures small { IfOk result (λ r. IsSmall 1 1 (polynomial_of r.items)) }
 {
     match coordinate {
@@ -93,7 +96,8 @@ fn coordinate_terms(alloc: Global, coordinate: Coordinate) -> Result<Vec<Term>, 
 fn part_difference(alloc: Global, b: &[Term], a: &[Term]) -> Result<Vec<Term>, AllocError>
     requires b { IsSmall 1 1 (polynomial_of b.now) }
     requires a { IsSmall 1 1 (polynomial_of a.now) }
-    ensures value { IfOk result (λ r. polynomial_of r.items ≡ poly_difference (polynomial_of b.now) (polynomial_of a.now)) }
+    ensures value { IfOk result (λ r. polynomial_of r.items
+        ≡ poly_difference (polynomial_of b.now) (polynomial_of a.now)) }
     ensures small { IfOk result (λ r. IsSmall 1 4 (polynomial_of r.items)) }
 {
     difference(alloc, b, a)
@@ -129,7 +133,8 @@ fn midpoint_part(alloc: Global, x: &[Term], a: &[Term], b: &[Term]) -> Result<Ve
     requires a { IsSmall 1 1 (polynomial_of a.now) }
     requires b { IsSmall 1 1 (polynomial_of b.now) }
     ensures value { IfOk result (λ r. polynomial_of r.items
-        ≡ poly_difference (poly_difference (poly_sum (polynomial_of x.now) (polynomial_of x.now)) (polynomial_of a.now))
+        ≡ poly_difference (poly_difference (poly_sum (polynomial_of x.now) (polynomial_of x.now))
+        (polynomial_of a.now))
         (polynomial_of b.now)) }
     ensures small { IfOk result (λ r. IsSmall 1 4 (polynomial_of r.items)) }
 {
@@ -151,7 +156,8 @@ fn translation_part(
     requires b { IsSmall 1 1 (polynomial_of b.now) }
     requires c { IsSmall 1 1 (polynomial_of c.now) }
     ensures value { IfOk result (λ r. polynomial_of r.items
-        ≡ poly_sum (poly_difference (poly_difference (polynomial_of x.now) (polynomial_of c.now)) (polynomial_of b.now))
+        ≡ poly_sum (poly_difference (poly_difference (polynomial_of x.now) (polynomial_of c.now))
+        (polynomial_of b.now))
         (polynomial_of a.now)) }
     ensures small { IfOk result (λ r. IsSmall 1 4 (polynomial_of r.items)) }
 {
@@ -214,7 +220,8 @@ pub fn centred(alloc: Global, x: &Place, y: &Place, c: &Place) -> Result<Vector,
 
 /// 2*M - A - B.
 pub fn off_midpoint(alloc: Global, m: &Place, a: &Place, b: &Place) -> Result<Vector, AllocError>
-    ensures { IfOk result (λ v. v ≡ minus polynomials (minus polynomials (twice polynomials m.now) a.now) b.now) }
+    ensures { IfOk result (λ v. v
+        ≡ minus polynomials (minus polynomials (twice polynomials m.now) a.now) b.now) }
 {
     Ok(Vector {
         x: midpoint_part(alloc, &m.x, &a.x, &b.x)?,
@@ -295,7 +302,8 @@ impl Quadratic {
 fn part_product(alloc: Global, p: &[Term], q: &[Term]) -> Result<Vec<Term>, AllocError>
     requires p { IsSmall 1 4 (polynomial_of p.now) }
     requires q { IsSmall 1 4 (polynomial_of q.now) }
-    ensures value { IfOk result (λ r. polynomial_of r.items ≡ poly_product (polynomial_of p.now) (polynomial_of q.now)) }
+    ensures value { IfOk result (λ r. polynomial_of r.items
+        ≡ poly_product (polynomial_of p.now) (polynomial_of q.now)) }
     ensures small { IfOk result (λ r. IsSmall 2 16 (polynomial_of r.items)) }
     ensures wide { IfOk result (λ r. IsSmall 2 32 (polynomial_of r.items)) }
 {

@@ -18,5 +18,5 @@ pub use copies::{copy_in, copy_out};
 pub use degrees::{degrees_fit, mul};
 pub use parts::{coefficient, copy, initial, shift, tail};
 pub use poly::Poly;
-pub use reads::{class, degree, same};
+pub use reads::{class, degree, greatest, same};
 pub use sums::{add, sub};

@@ -27,7 +27,7 @@ pub fn same<S: TermStore>(s: &S, a: Poly, b: Poly) -> bool
 }
 
 /// The place of the greatest variable of a monomial; None where it has none.
-fn greatest(exps: &[u8; MOST_VARIABLES]) -> Option<u8>
+pub fn greatest(exps: &[u8; MOST_VARIABLES]) -> Option<u8>
     ensures { class_number result ≡ monomial_class exps.now }
 {
     let mut i = MOST_VARIABLES;

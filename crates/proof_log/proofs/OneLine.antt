@@ -1,7 +1,6 @@
 -- Each line has one text, and each text is that of at most one line over the same variables.
 use Rattle.std.proofs.Common.{◌≡◌, ℕ, ◌≤◌, List, [], ◌∷◌, ◌++◌, map, drop, get_or, Bool, true, false, ◌==◌, refl, sym, ◌∙◌, ap, arith, append-nil}
 use Rattle.std.specs.Prelude.{ℤ, pos}
-use Rattle.std.specs.List.{flat_map}
 use Rattle.std.proofs.lemmas.Bool.Decides.{nat_tests}
 use Rattle.poly_model.specs.Polynomial.{Polynomial}
 use Rattle.poly_model.specs.Names.{are_variables, number}

@@ -1,11 +1,12 @@
 -- Fields, variables and polynomials as items that stand one behind the other.
-use Rattle.std.proofs.Common.{◌≡◌, ◌≢◌, ℕ, ◌≤◌, List, [], ◌∷◌, ◌++◌, length, Bool, true, false, refl, sym, ◌∙◌, ap, subst, arith}
+use Rattle.std.proofs.Common.{◌≡◌, ◌≢◌, ℕ, ◌≤◌, List, [], ◌∷◌, ◌++◌, length, Bool, true, false, refl, sym, ◌∙◌, ap, subst, append-nil, append_assoc, arith}
 use Rattle.std.specs.Prelude.{codes}
 use Rattle.poly_model.specs.Names.{are_variables, number}
 use Rattle.poly_model.specs.Polynomial.{Polynomial}
 use Rattle.poly_model.specs.declared.vars.VarName.{VarName}
 use Rattle.poly_text.specs.Text.{poly_text, variable_text}
 use Rattle.poly_text.proofs.Factors.{Named}
+use Rattle.poly_text.proofs.Unique.{named}
 use Rattle.proof_log.specs.declared.field.FieldKind.{FieldKind}
 use Rattle.proof_log.specs.Cuts.{Avoids, EndsAt}
 use Rattle.proof_log.specs.Kinds.{IsAt, AreAt, kind_of, AreNames, poly_mark}

@@ -1,6 +1,7 @@
 pub mod Lines
 pub mod Text
 pub mod Lengths
+pub mod Accepted
 pub mod Cuts
 pub mod Kinds
 pub mod Grammar
@@ -8,4 +9,3 @@ pub mod Places
 pub mod Feeding
 pub mod Writing
 pub mod Own
-pub mod Accepted

@@ -6,7 +6,7 @@ ghost use Rattle.desk_io.specs.Causes.{HasCause};
 ghost use Rattle.poly_model.specs.Content.{is_negative};
 ghost use Rattle.poly_text.specs.Text.{poly_text, variable_text};
 ghost use Rattle.proof_log.specs.Own.{IsOver, VerdictIsOver, RestIsOver};
-ghost use Rattle.proof_log.specs.Text.{letter_text, minus_where, field_text, fields_text, attempt_word, attempt_fields, more_text, polys_text, verdict_text, tail_text, row};
+ghost use Rattle.proof_log.specs.Text.{letter_text, minus_where, field_text, fields_text, attempt_word, attempt_fields, more_text, polys_text, verdict_text, tail_text, names_text, row};
 ghost use Rattle.proof_log.specs.Writing.{lent, row_text};
 
 use crate::field::Field;
@@ -260,7 +260,7 @@ fn write_name<S: Sink>(name: VarName, pen: &mut Pen, sink: &mut S) -> Result<(),
 
 fn write_names<S: Sink>(vars: &Vars, pen: &mut Pen, sink: &mut S) -> Result<(), Failed>
     ensures bytes { Writes (S.written sink.old) (S.written sink.new) pen.old pen.new result
-        (flat_map (λ name. 32 ∷ variable_text name) vars.now) }
+        (names_text vars.now) }
     ensures cause { HasCause (S.faults sink.old) (S.faults sink.new) result }
 {
     for i in 0..vars.len() {

@@ -9,7 +9,8 @@ fn term(coef: i128) -> Term {
     }
 }
 
-/// With memory at hand, what is asked for is made spare, and each list and each term uses one unit of it.
+/// With memory at hand, what is asked for is made spare; each list and each term uses one unit of it, and a list that is
+/// given up gives them back.
 #[test]
 fn room_is_made(rt: HostRuntime) -> Result<(), Fail> {
     let mut s = VecStore::new(rt.alloc())?;
@@ -20,5 +21,8 @@ fn room_is_made(rt: HostRuntime) -> Result<(), Fail> {
     s.push(first, term(7));
     s.push(first, term(8));
     assert!(rt; s.spare() + 3 == whole);
+    assert!(rt; s.len(first) == 2 && s.get(first, 1) == term(8));
+    s.free(first);
+    assert!(rt; s.spare() == whole);
     Ok(())
 }

@@ -74,12 +74,12 @@ condition-there n m j r h =
     let l = r.letters in
     (omega (arith, low), omega (arith, high, e, l))
 
-length-without : (ps : List Polynomial) (i : ℕ) → length (without_place ps i) ≤ length ps
+pub length-without : (ps : List Polynomial) (i : ℕ) → length (without_place ps i) ≤ length ps
 length-without [] i = omega arith
 length-without (p ∷ ps) zero = omega arith
 length-without (p ∷ ps) (suc i) = let h = length-without ps i in omega (arith, h)
 
-length-more : {A : Type 0} (a : List A) (x : A) → length (a ++ x ∷ []) ≡ suc (length a)
+pub length-more : {A : Type 0} (a : List A) (x : A) → length (a ++ x ∷ []) ≡ suc (length a)
 length-more [] x = refl
 length-more (p ∷ a) x = ap suc (length-more a x)
 

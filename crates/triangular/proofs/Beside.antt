@@ -106,7 +106,7 @@ pub record Kept (b : State) (hs : List Held) (E : List Polynomial) : Type 0 wher
   pub tell : AllTell [] hs (map (held_at b) hs)
   pub same : map (held_at b) hs ≡ E
 
-held-eqs : (s : State) (hs : List Held) → map (held_at s) hs ≡ map (polynomial_at s) (map poly_of hs)
+pub held-eqs : (s : State) (hs : List Held) → map (held_at s) hs ≡ map (polynomial_at s) (map poly_of hs)
 held-eqs s [] = refl
 held-eqs s (h ∷ hs) = ap (λ l. held_at s h ∷ l) (held-eqs s hs)
 

@@ -1,11 +1,11 @@
 -- The equation that reduces a polynomial, found by what is known of the equations.
-use Rattle.std.proofs.Common.{◌≡◌, ℕ, ◌+◌, ◌-◌, ◌<◌, ◌≤◌, zero, suc, List, [], ◌∷◌, length, map, get_or, refl, sym, ◌∙◌, ap, arith, Bool, true, false}
-use Rattle.std.specs.Prelude.{◌==◌, Option, unwrap_or, if◌then◌else◌, nat_le}
-use Rattle.std.proofs.lemmas.Bool.{eqb-true, eq-eqb}
+use Rattle.std.proofs.Common.{◌≡◌, ℕ, ◌+◌, ◌-◌, ◌<◌, ◌≤◌, zero, suc, List, [], ◌∷◌, length, map, get_or, refl, sym, ◌∙◌, ap, arith, Bool, true, false, ◌&&◌, not}
+use Rattle.std.specs.Prelude.{◌==◌, Option, unwrap_or, if◌then◌else◌, nat_le, count_by}
+use Rattle.std.proofs.lemmas.Bool.{eqb-true, eq-eqb, and_parts}
 use Rattle.std.proofs.lemmas.List.{length-map}
 use Rattle.poly_model.specs.Polynomial.{Polynomial}
 use Rattle.poly_model.specs.Standard.{is_standard}
-use Rattle.poly_model.specs.Reduction.{class_of, degree_at, reaches}
+use Rattle.poly_model.specs.Reduction.{class_of, is_constant, degree_at, reaches}
 use Rattle.poly_model.specs.declared.limits.TheConstants.{MOST_VARIABLES}
 use Rattle.poly_model.proofs.Within.{within-of}
 use Rattle.polynomials.proofs.Reading.{class-within}
@@ -16,6 +16,9 @@ use Rattle.proof_steps.proofs.Search.{first_from-found, greatest-attained}
 use Rattle.workbench.specs.Standing.{Tells, AllTell}
 use Rattle.workbench.specs.declared.bench.Held.{Held}
 use Rattle.workbench.proofs.Tied as tied
+use Rattle.proof_steps.specs.Rules.{is_settled, is_triangular}
+use Rattle.triangular.specs.Counting.{count_of}
+use Rattle.triangular.proofs.Counted.{count-is}
 use Rattle.triangular.specs.Reducers.{AreWithin, class_reached, reducing_in, first_in, HaveOwnClasses}
 
 pub within-told : (N : List Polynomial) (hs : List Held) (ps : List Polynomial) → AllTell N hs ps → AreWithin hs
@@ -63,3 +66,24 @@ reducer E p x own e = at (greatest-attained (λ f. if reaches p f then class_of 
           class = ap (λ k. class_of (item E k)) number ∙ class;
           reached = ap (λ k. reaches p (item E k)) number ∙ ap (λ k. reaches p (get_or E k [])) same ∙ t.0;
         }
+
+-- ---- in a triangular system each equation has a class of its own
+count-some : (x : ℕ) (ps : List Polynomial) (j : ℕ) → j < length ps → class_of (get_or ps j []) ≡ x → 1 ≤ count_of x ps
+count-some x [] j h e = absurd (omega arith)
+count-some x (p ∷ ps) zero h e = let one = ap {B = ℕ} (λ b. if b then 1 else 0) (eq-eqb (class_of p) x e) in omega (arith, one)
+count-some x (p ∷ ps) (suc j) h e = let more = count-some x ps j (omega arith) e in omega (arith, more)
+
+only-one : (x : ℕ) (ps : List Polynomial) (i j : ℕ) → i < length ps → j < length ps → class_of (get_or ps i []) ≡ x → class_of (get_or ps j []) ≡ x → count_of x ps ≤ 1 → i ≡ j
+only-one x [] i j hi hj ei ej c = absurd (omega arith)
+only-one x (p ∷ ps) zero zero hi hj ei ej c = refl
+only-one x (p ∷ ps) zero (suc j) hi hj ei ej c =
+    absurd (let one = ap {B = ℕ} (λ b. if b then 1 else 0) (eq-eqb (class_of p) x ei) in let more = count-some x ps j (omega arith) ej in omega (arith, one, more, c))
+only-one x (p ∷ ps) (suc i) zero hi hj ei ej c =
+    absurd (let one = ap {B = ℕ} (λ b. if b then 1 else 0) (eq-eqb (class_of p) x ej) in let more = count-some x ps i (omega arith) ei in omega (arith, one, more, c))
+only-one x (p ∷ ps) (suc i) (suc j) hi hj ei ej c = ap suc (only-one x ps i j (omega arith) (omega arith) ei ej (omega (arith, c)))
+
+pub own-classes : (E N : List Polynomial) → is_triangular E N ≡ true → HaveOwnClasses E
+own-classes E N t i j hi hj same =
+    let settled = (and_parts _ (is_settled E N (class_of (get_or E i []))) (search.all-at (λ p. not (is_constant p) && is_settled E N (class_of p)) E i hi t)).1 in
+    let one = eqb-true (count_by (λ p. class_of p == class_of (get_or E i [])) E) 1 (and_parts _ _ settled).0 in
+    only-one (class_of (get_or E i [])) E i j hi hj refl (sym same) (let n = count-is (class_of (get_or E i [])) E in omega (arith, n, one))

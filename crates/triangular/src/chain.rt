@@ -41,8 +41,8 @@ fn remainder<S: TermStore>(
     Ok(Some(LeafStatus::Remainder { k, r: copy? }))
 }
 
-/// Reduces the k-th conclusion as far as it goes, and gives its list up: the status where the chain ends with it, and None
-/// where it is 0.
+/// Reduces the k-th conclusion as far as it goes, and gives its list up: the status where the chain
+/// ends with it, and None where it is 0.
 fn reduce_one<S: TermStore>(
     alloc: Global,
     s: &mut S,
@@ -53,7 +53,8 @@ fn reduce_one<S: TermStore>(
 ) -> Result<Option<LeafStatus>, AllocError>
     requires p { IsPoly (S.state s.old) p }
     requires found { AreFound (given_up (S.state s.old) (slot_of p)) hs.now }
-    requires tell { AllTell [] hs.now (map (held_at (given_up (S.state s.old) (slot_of p))) hs.now) }
+    requires tell { AllTell [] hs.now
+        (map (held_at (given_up (S.state s.old) (slot_of p))) hs.now) }
     requires own { HaveOwnClasses (map (held_at (given_up (S.state s.old) (slot_of p))) hs.now) }
     requires few { length hs.now < 2 ^ 16 }
     requires room { LEAF_UNITS ≤ (given_up (S.state s.old) (slot_of p)).spare }
@@ -111,10 +112,11 @@ fn reduce_one<S: TermStore>(
     Ok(None)
 }
 
-/// Reduces the conclusions by the equations of a system, one after the other: each by the equation of the greatest class
-/// whose degree it reaches, as long as there is one, and each step paid from the fuel with 1 and the terms of its result.
-/// The chain ends at the first conclusion that stays other than 0, at the first step that meets a limit or that the fuel does
-/// not pay, or where all are 0.
+/// Reduces the conclusions by the equations of a system, one after the other: each by the equation
+/// of the greatest class whose degree it reaches, as long as there is one, and each step paid from
+/// the fuel with 1 and the terms of its result. The chain ends at the first conclusion that stays
+/// other than 0, at the first step that meets a limit or that the fuel does not pay, or where all
+/// are 0.
 pub fn reduce_conclusions<S: TermStore>(
     alloc: Global,
     s: &mut S,

@@ -7,7 +7,8 @@ use polynomials::{Poly, degree};
 use term_store::TermStore;
 use workbench::Held;
 
-/// The greatest class of an equation whose degree the polynomial reaches, and 0 where there is none.
+/// The greatest class of an equation whose degree the polynomial reaches, and 0 where there is
+/// none.
 pub fn reducing_class<S: TermStore>(s: &S, hs: &[Held], p: Poly) -> u8
     requires hs { AreWithin hs.now }
     requires p { IsPoly (S.state s.now) p }

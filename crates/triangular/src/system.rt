@@ -74,7 +74,8 @@ fn is_single<S: TermStore>(s: &S, eqs: &[Poly], p: Poly) -> bool
     x != 0 && count(s, eqs, x) == 1
 }
 
-/// The equation is no constant, and its class is settled: no other equation has it, and its initial is known.
+/// The equation is no constant, and its class is settled: no other equation has it, and its initial
+/// is known.
 fn is_alone<S: TermStore>(s: &mut S, eqs: &[Poly], nes: &[Poly], p: Poly) -> bool
     requires eqs { AreHeld (S.state s.old) eqs.now }
     requires nes { AreHeld (S.state s.old) nes.now }
@@ -93,8 +94,9 @@ fn is_alone<S: TermStore>(s: &mut S, eqs: &[Poly], nes: &[Poly], p: Poly) -> boo
     all_known(s, eqs, nes, x)
 }
 
-/// The equations are a triangular system: none is a constant, and each class that occurs is settled, by one equation whose
-/// initial has a primitive part that is a number other than 0 or one of the conditions.
+/// The equations are a triangular system: none is a constant, and each class that occurs is
+/// settled, by one equation whose initial has a primitive part that is a number other than 0 or one
+/// of the conditions.
 pub fn is_triangular<S: TermStore>(s: &mut S, eqs: &[Poly], nes: &[Poly]) -> bool
     requires eqs { AreHeld (S.state s.old) eqs.now }
     requires nes { AreHeld (S.state s.old) nes.now }

@@ -13,7 +13,7 @@ use Rattle.poly_model.specs.Equality.{same-is}
 use Rattle.workbench.proofs.Tests.{number-is}
 use Rattle.poly_model.specs.Polynomial.{Polynomial}
 use Rattle.proof_steps.specs.Numbers.{item, has, first, first_from, greatest}
-use Rattle.poly_model.specs.Reduction.{same, has_polynomial, is_zero, is_nonzero_constant, is_constant, class_of, main_degree}
+use Rattle.poly_model.specs.Reduction.{same, has_polynomial, is_zero, is_nonzero_constant, class_of, main_degree}
 use Rattle.proof_steps.specs.Rules.{has_known_initial, is_settled, is_valid}
 use Rattle.proof_steps.specs.Work as work
 use Rattle.proof_steps.specs.Work.{unsettled_class, is_less, is_least, least, other}

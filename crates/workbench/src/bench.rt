@@ -1,9 +1,9 @@
 use polynomials::Poly;
 use proof_steps::Path;
 
-/// An equation in a store, with what is known of it: the number of its greatest variable (0 of a constant), its degree in
-/// that variable, its number of terms, and whether the primitive part of its initial is a number other than 0 or one of the
-/// conditions.
+/// An equation in a store, with what is known of it: the number of its greatest variable (0 of a
+/// constant), its degree in that variable, its number of terms, and whether the primitive part of
+/// its initial is a number other than 0 or one of the conditions.
 #[derive(Clone, Copy, Debug)]
 pub struct Held {
     pub poly: Poly,
@@ -13,7 +13,8 @@ pub struct Held {
     pub known: bool,
 }
 
-/// A node that is worked on: its polynomials are lists of a store, and its size is kept beside them.
+/// A node that is worked on: its polynomials are lists of a store, and its size is kept beside
+/// them.
 #[derive(Debug, Drop)]
 pub struct Bench {
     pub path: Path,

@@ -1,5 +1,5 @@
-//! One node of a proof, worked on with its polynomials in a store: what is known of each equation beside it, the rule that is
-//! due, and what the rules make of the node.
+//! One node of a proof, worked on with its polynomials in a store: what is known of each equation
+//! beside it, the rule that is due, and what the rules make of the node.
 #![tactic(auto)]
 
 mod bench;

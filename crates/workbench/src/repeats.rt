@@ -54,7 +54,8 @@ pub fn clashed<S: TermStore>(s: &S, hs: &[Held], nes: &[Poly]) -> usize
     requires hs { AreFound (S.state s.now) hs.now }
     requires nes { AreHeld (S.state s.now) nes.now }
     requires few { length hs.now < 2 ^ 16 }
-    ensures place { result ≡ clashed_in (held_at (S.state s.now)) (map (polynomial_at (S.state s.now)) nes.now) hs.now }
+    ensures place { result ≡ clashed_in (held_at (S.state s.now))
+        (map (polynomial_at (S.state s.now)) nes.now) hs.now }
     ensures within { result ≤ length hs.now }
 {
     let mut rest = hs;
@@ -74,7 +75,8 @@ pub fn number_among<S: TermStore>(s: &S, ps: &[Poly], p: Poly) -> usize
     requires ps { AreHeld (S.state s.now) ps.now }
     requires p { IsPoly (S.state s.now) p }
     requires few { length ps.now < 2 ^ 16 }
-    ensures place { result ≡ place_at (λ q. same q (polynomial_at (S.state s.now) p)) 1 (map (polynomial_at (S.state s.now)) ps.now) }
+    ensures place { result ≡ place_at (λ q. same q (polynomial_at (S.state s.now) p)) 1
+        (map (polynomial_at (S.state s.now)) ps.now) }
     ensures within { result ≤ length ps.now }
 {
     let mut rest = ps;
@@ -93,7 +95,8 @@ pub fn number_among<S: TermStore>(s: &S, ps: &[Poly], p: Poly) -> usize
 pub fn is_equation<S: TermStore>(s: &S, hs: &[Held], p: Poly) -> bool
     requires hs { AreFound (S.state s.now) hs.now }
     requires p { IsPoly (S.state s.now) p }
-    ensures { result ≡ has_polynomial (map (held_at (S.state s.now)) hs.now) (polynomial_at (S.state s.now) p) }
+    ensures { result ≡ has_polynomial (map (held_at (S.state s.now)) hs.now)
+        (polynomial_at (S.state s.now) p) }
 {
     let mut rest = hs;
     while let Some((first, after)) = rest.split_first() {

@@ -101,7 +101,9 @@ fn plus_child<S: TermStore>(
     requires nes { AreHeld (S.state s.now) bench.now.nes.items }
     requires j { IsPoly (S.state s.now) j }
     requires letters { length bench.now.path < MOST_LETTERS }
-    ensures { IfOk result (λ m. m ≡ child (node_at (S.state s.now) bench.now) true (node_at (S.state s.now) bench.now).eqs ((node_at (S.state s.now) bench.now).nes ++ polynomial_at (S.state s.now) j ∷ []) fuel) }
+    ensures { IfOk result (λ m. m ≡ child (node_at (S.state s.now) bench.now) true
+        (node_at (S.state s.now) bench.now).eqs
+        ((node_at (S.state s.now) bench.now).nes ++ polynomial_at (S.state s.now) j ∷ []) fuel) }
 {
     let eqs = copy_equations(alloc, s, &bench.eqs)?;
     let mut nes = copy_conditions(alloc, s, &bench.nes)?;
@@ -130,7 +132,10 @@ fn minus_child<S: TermStore>(
     requires r { IsPoly (S.state s.now) r }
     requires has { at < length bench.now.eqs.items }
     requires letters { length bench.now.path < MOST_LETTERS }
-    ensures { IfOk result (λ m. m ≡ child (node_at (S.state s.now) bench.now) false (set (node_at (S.state s.now) bench.now).eqs at (polynomial_at (S.state s.now) r) ++ polynomial_at (S.state s.now) j ∷ []) (node_at (S.state s.now) bench.now).nes fuel) }
+    ensures { IfOk result (λ m. m ≡ child (node_at (S.state s.now) bench.now) false
+        (set (node_at (S.state s.now) bench.now).eqs at (polynomial_at (S.state s.now) r)
+        ++ polynomial_at (S.state s.now) j ∷ [])
+        (node_at (S.state s.now) bench.now).nes fuel) }
 {
     let mut eqs = copy_equations(alloc, s, &bench.eqs)?;
     eqs[at] = copy_out(alloc, s, r)?;
@@ -159,10 +164,12 @@ fn children<S: TermStore>(
     requires r { IsPoly (S.state s.now) r }
     requires has { at < length bench.now.eqs.items }
     requires letters { length bench.now.path < MOST_LETTERS }
-    requires tell { AllTell (node_at (S.state s.now) bench.now).nes bench.now.eqs.items (node_at (S.state s.now) bench.now).eqs }
+    requires tell { AllTell (node_at (S.state s.now) bench.now).nes bench.now.eqs.items
+        (node_at (S.state s.now) bench.now).eqs }
     requires size { bench.now.size ≡ size_of (node_at (S.state s.now) bench.now) }
     requires most { bench.now.size ≤ MOST_FUEL }
-    ensures { IfOk result (λ p. PartedBy (node_at (S.state s.now) bench.now) at (polynomial_at (S.state s.now) j) (polynomial_at (S.state s.now) r) p) }
+    ensures { IfOk result (λ p. PartedBy (node_at (S.state s.now) bench.now) at
+        (polynomial_at (S.state s.now) j) (polynomial_at (S.state s.now) r) p) }
 {
     let gain = term_count(s, j);
     let terms = term_count(s, r);

@@ -27,8 +27,8 @@ pub fn drop_equation<S: TermStore>(s: &mut S, bench: &mut Bench, i: usize)
     bench.fuel -= 1;
 }
 
-/// Puts a new polynomial in place of an equation, whose list is given up. Where the node would be short of fuel, the new list
-/// is given up instead.
+/// Puts a new polynomial in place of an equation, whose list is given up. Where the node would be
+/// short of fuel, the new list is given up instead.
 pub fn settle<S: TermStore>(s: &mut S, bench: &mut Bench, i: usize, r: Poly) -> bool
     requires stands { Stands (without (S.state s.old) (slot_of r ∷ slots_of bench.old))
         (S.state s.old) (slot_of r ∷ []) bench.old }

@@ -1,4 +1,4 @@
-use Rattle.std.proofs.Common.{◌≡◌, sym, ◌∙◌, ap}
+use Rattle.std.proofs.Common.{◌∙◌, ap}
 use Rattle.algebraize.specs.Equations.{polynomials}
 use Rattle.algebraize.specs.Figure.{effect}
 use Rattle.algebraize.specs.Formed.{curves_of, effect_of, primitive_effect}

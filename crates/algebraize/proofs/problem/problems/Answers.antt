@@ -1,4 +1,4 @@
-use Rattle.std.proofs.Common.{◌+◌, ◌-◌, [], ◌∷◌, arith, map, refl, sym, ◌∙◌, ap, subst, true}
+use Rattle.std.proofs.Common.{◌+◌, ◌-◌, [], ◌∷◌, arith, map, refl, sym, ◌∙◌, ap, subst}
 use Rattle.std.specs.Prelude.{All}
 use Rattle.std.specs.List.{list_all}
 use Rattle.std.proofs.lemmas.List.Elements.{All-push}

@@ -1,12 +1,12 @@
-use Rattle.std.proofs.Common.{◌≡◌, ◌≤◌, ◌*◌, sym, ◌∙◌, ap, subst, arith, true}
+use Rattle.std.proofs.Common.{◌≡◌, ◌*◌, sym, ◌∙◌, ap, subst, arith, true}
 use Rattle.std.proofs.Common.{rules}
 use Rattle.std.specs.Prelude.{◌*ℤ◌, unsigned_abs}
-use Rattle.std.proofs.lemmas.Int.{ints, to_z-of_z}
+use Rattle.std.proofs.lemmas.Int.{to_z-of_z}
 use mir.Syntax.{w128}
 use mir.Val.{SFits}
 use Rattle.poly_model.specs.Polynomial.{add_entry, add_multiple, exponents_sum}
 use Rattle.poly_model.specs.Standard.{polynomial_of}
-use Rattle.poly_model.specs.declared.limits.TheConstants.{MOST_DEGREE, MOST_SIZE}
+use Rattle.poly_model.specs.declared.limits.TheConstants.{MOST_DEGREE}
 use Rattle.algebraize.specs.Small.{weight, are_at_most, is_low}
 use Rattle.algebraize.proofs.Changes as changes
 use Rattle.algebraize.proofs.Every.{every-last}

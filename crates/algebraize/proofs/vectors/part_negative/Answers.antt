@@ -1,10 +1,7 @@
-use Rattle.std.proofs.Common.{◌≡◌, ◌≤◌, ◌+◌, ◌*◌, sym, ◌∙◌, ap, subst, arith, rules, refl}
-use Rattle.poly_model.specs.Polynomial.{Polynomial, poly_sum, poly_difference, poly_negative, poly_product}
+use Rattle.std.proofs.Common.{sym, subst, arith}
 use Rattle.poly_model.specs.Standard.{polynomial_of}
-use Rattle.poly_model.specs.declared.limits.TheConstants.{MOST_DEGREE, MOST_SIZE, MOST_TERMS}
-use Rattle.algebraize.specs.Small.{weight, is_low, IsSmall}
+use Rattle.algebraize.specs.Small.{IsSmall}
 use Rattle.algebraize.proofs.Changes.{if_ok}
-use Rattle.algebraize.proofs.Every.{is_low-more}
 use Rattle.algebraize.proofs.Small as small
 use Rattle.algebraize.proofs.vectors.part_negative.Goals as goal
 

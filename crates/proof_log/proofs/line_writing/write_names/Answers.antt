@@ -3,7 +3,7 @@ use Rattle.desk_io.proofs.Growth.{Grew-more}
 use Rattle.desk_io.proofs.Writing.{next_failed, pieces_more, pieces_split}
 use Rattle.poly_model.specs.declared.vars.VarName.{VarName}
 use Rattle.poly_text.specs.Text.{variable_text}
-use Rattle.proof_log.proofs.OneLine.{names_text}
+use Rattle.proof_log.specs.Text.{names_text}
 use Rattle.proof_log.proofs.line_writing.write_names.Goals as goal
 
 piece : VarName → List ℕ

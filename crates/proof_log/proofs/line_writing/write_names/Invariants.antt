@@ -1,6 +1,6 @@
 use Rattle.std.proofs.Common.{◌≤◌, take}
 use Rattle.desk_io.specs.Bytes.{Grew}
-use Rattle.proof_log.proofs.OneLine.{names_text}
+use Rattle.proof_log.specs.Text.{names_text}
 use Rattle.proof_log.proofs.line_writing.write_names.Given as goal
 
 abbrev pub invariant-loop-i : goal.invariant-loop-i

@@ -1,6 +1,5 @@
 use Rattle.std.proofs.Common.{◌≡◌, ◌++◌, map, sym, ◌∙◌, ap, subst, append_assoc, [], ◌∷◌, List}
 use Rattle.std.proofs.lemmas.List.{map-append}
-use Rattle.polynomials.specs.declared.poly.Poly.{Poly}
 use Rattle.polynomials.specs.Held.{polynomial_at}
 use Rattle.workbench.specs.declared.bench.Held.{Held}
 use Rattle.workbench.specs.Standing.{AllTell, AreHeld, Tells, held_at, poly_of}

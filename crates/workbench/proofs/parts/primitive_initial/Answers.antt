@@ -20,5 +20,5 @@ returns g c =
     let v = g.S.TermStore.state c.give_up.new.s in
     let r = c.prim.result.1 in
     results.gives-freed s t u v c.coefficient-initial.result r _ c.coefficient-initial.ensures.makes
-        (subst (Gives t u r) (ap primitive_part c.coefficient-initial.ensures.value ∙ λ i. primitive_part (coefficient_at (c.place.ensures.place i) (c.main_degree-power.ensures i) (polynomial_at s c.args.p))) c.prim.ensures.part)
-        (results.freed u v _ _ refl c.give_up.ensures.lists c.give_up.ensures.spare)
+    (subst (Gives t u r) (ap primitive_part c.coefficient-initial.ensures.value ∙ λ i. primitive_part (coefficient_at (c.place.ensures.place i) (c.main_degree-power.ensures i) (polynomial_at s c.args.p))) c.prim.ensures.part)
+    (results.freed u v _ _ refl c.give_up.ensures.lists c.give_up.ensures.spare)

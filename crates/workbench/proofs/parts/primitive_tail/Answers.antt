@@ -19,5 +19,5 @@ returns g c =
     let v = g.S.TermStore.state c.give_up.new.s in
     let r = c.prim.result.1 in
     results.gives-freed s t u v c.tail-rest.result r _ c.tail-rest.ensures.makes
-        (subst (Gives t u r) (ap primitive_part c.tail-rest.ensures.value) c.prim.ensures.part)
-        (results.freed u v _ _ refl c.give_up.ensures.lists c.give_up.ensures.spare)
+    (subst (Gives t u r) (ap primitive_part c.tail-rest.ensures.value) c.prim.ensures.part)
+    (results.freed u v _ _ refl c.give_up.ensures.lists c.give_up.ensures.spare)

@@ -1,12 +1,10 @@
 use Rattle.std.proofs.Common.{◌≡◌, ◌+◌, ◌-◌, ◌<◌, length, map, ◌∷◌, [], refl, sym, ◌∙◌, ap, arith}
 use Rattle.std.proofs.lemmas.List.{length-map}
-use Rattle.term_store.specs.States.{list_at}
-use Rattle.polynomials.specs.Held.{polynomial_at, slot_of}
+use Rattle.polynomials.specs.Held.{polynomial_at}
 use Rattle.workbench.specs.Standing.{node_at, held_at}
 use Rattle.workbench.proofs.Benches as benches
 use Rattle.workbench.proofs.Sharing as sharing
 use Rattle.workbench.proofs.Sharing.{Counted}
-use Rattle.workbench.proofs.Tests as tests
 use Rattle.workbench.proofs.splitting.children.Goals as goal
 
 pub overflow_sub-minus_size : goal.overflow_sub-minus_size

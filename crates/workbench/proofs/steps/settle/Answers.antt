@@ -1,6 +1,6 @@
 use Rattle.std.proofs.Common.{◌≡◌, ◌≤◌, ◌+◌, ◌-◌, map, refl, sym, subst, arith}
-use Rattle.term_store.specs.States.{list_at, IsLive}
-use Rattle.polynomials.specs.Held.{slot_of, polynomial_at}
+use Rattle.term_store.specs.States.{IsLive}
+use Rattle.polynomials.specs.Held.{polynomial_at}
 use Rattle.proof_steps.specs.Rules.{size_of}
 use Rattle.workbench.specs.Standing.{held_slot, node_at, put_at, AreHeld, Tells}
 use Rattle.std.specs.Vec.{with_item}

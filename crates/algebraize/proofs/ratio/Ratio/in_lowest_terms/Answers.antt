@@ -1,12 +1,10 @@
-use Rattle.std.proofs.Common.{◌≡◌, ◌≤◌, ◌/◌, ℕ, rules, sym, ◌∙◌, ap, arith, refl}
-use Rattle.std.specs.Prelude.{ℤ, pos, negsuc, neg_ℤ, unsigned_abs}
+use Rattle.std.proofs.Common.{◌≡◌, rules, ◌∙◌, ap}
+use Rattle.std.specs.Prelude.{pos}
 use Rattle.std.proofs.lemmas.Int.{to_z-of_z}
 use mir.Syntax.{w64, w128}
 use mir.Val.{SFits}
 use Rattle.poly_model.specs.Content.{quotient_of}
-use Rattle.algebraize.specs.declared.ratio.TheConstants.{MILLIONTHS, MOST_MILLIONTHS}
-use Rattle.algebraize.specs.Ratio.{numerator, denominator}
-use Rattle.algebraize.proofs.Small.{abs-quotient}
+use Rattle.algebraize.specs.declared.ratio.TheConstants.{MILLIONTHS}
 use Rattle.algebraize.proofs.ratio.Ratio.in_lowest_terms.Goals as goal
 
 pub returns-clause-numerator : goal.returns-clause-numerator

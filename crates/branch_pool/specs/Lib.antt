@@ -1,0 +1,4 @@
+pub mod Deques
+pub mod Views
+pub mod Children
+pub mod Halves

@@ -1,0 +1,77 @@
+ghost use Rattle.std.specs.Prelude.{◌≡◌, ◌<◌, length, IfSome};
+ghost use Rattle.poly_model.specs.declared.limits.TheConstants.{MOST_LETTERS};
+
+use branch_core::{Book, Idle, Ticket, Unsplit};
+use proof_steps::Path;
+use std::sync::{Condvar, Mutex, Wait};
+use std::thread;
+
+/// What the workers share: the book under a lock, and a bell that rings when it changes.
+#[derive(Drop)]
+pub struct Board<P> {
+    pub(crate) book: Mutex<Book<P>>,
+    pub(crate) moved: Condvar,
+}
+
+impl<P: Drop> Board<P> {
+    /// A board over a book.
+    pub fn new(book: Book<P>) -> Board<P> {
+        Board {
+            book: Mutex::new(book),
+            moved: Condvar::new(),
+        }
+    }
+
+    /// None where the path does not wait or the book is stopped.
+    pub fn take<R: Wait>(&self, rt: &R, worker: u32, path: Path) -> Option<Ticket>
+        ensures { IfSome result (λ t. t ≡ (path, worker)) }
+    {
+        self.book.lock(rt).take(worker, path).ok()
+    }
+
+    /// Ends a path that has no children.
+    pub fn leaf<R: Wait>(&self, rt: &R, ticket: Ticket, piece: P) {
+        let _ = self.book.lock(rt).leaf(ticket, piece);
+        self.moved.notify_all();
+    }
+
+    /// Ends a path whose children wait. False where memory ran out, and then the book is stopped.
+    pub fn split<R: Wait>(&self, rt: &R, ticket: Ticket, piece: P) -> bool
+        requires { length ticket.0 < MOST_LETTERS }
+    {
+        let ended = self.book.lock(rt).split(ticket, piece);
+        self.moved.notify_all();
+        match ended {
+            Ok(()) => true,
+            Err(Unsplit::Gone(_, _)) => true,
+            Err(Unsplit::OutOfMemory(ticket, _)) => {
+                self.refuse(rt, ticket);
+                false
+            }
+        }
+    }
+
+    /// Gives a path back for want of memory, and stops the book.
+    pub fn refuse<R: Wait>(&self, rt: &R, ticket: Ticket) {
+        let _ = self.book.lock(rt).refuse(ticket);
+        self.moved.notify_all();
+    }
+
+    /// Waits for work. True where there will be none.
+    pub fn rest<R: Wait>(&self, rt: &R) -> bool {
+        let book = self.book.lock(rt);
+        match book.idle() {
+            Idle::Stopped => true,
+            Idle::Done => true,
+            Idle::Work => {
+                drop(book);
+                thread::yield_now();
+                false
+            }
+            Idle::Wait => {
+                let _book = self.moved.wait(rt, book);
+                false
+            }
+        }
+    }
+}

@@ -1,0 +1,4 @@
+pub mod Turns
+pub mod Copying
+pub mod Opened
+pub mod Concluded

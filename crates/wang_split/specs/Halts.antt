@@ -1,0 +1,39 @@
+-- Where the work on a node halts.
+use Rattle.std.specs.Prelude.{◌≡◌, List, Bool, true, false, Some}
+use Rattle.poly_model.specs.Polynomial.{Polynomial}
+use Rattle.proof_steps.specs.Rules.{reason_of}
+use Rattle.proof_steps.specs.Work as work
+use Rattle.proof_steps.specs.declared.piece.Node.{Node}
+use Rattle.proof_steps.specs.declared.step.Attempt.{Attempt}
+use Rattle.proof_steps.specs.declared.step.Attempt.TheVariants as attempt
+use Rattle.proof_steps.specs.declared.step.Step.{Step}
+use Rattle.tree_laws.proofs.Unfold.{Whole}
+use Rattle.workbench.specs.Dues.{next_of}
+use Rattle.workbench.specs.declared.order.Next.{Next}
+use Rattle.workbench.specs.declared.order.Next.TheVariants as due
+use Rattle.wang_split.specs.declared.working.Halt.{Halt}
+use Rattle.wang_split.specs.declared.working.Halt.TheVariants as halt
+
+-- The rule goes on at the node that it leaves.
+abbrev pub is_step : Attempt → Bool
+is_step (attempt.Drop i) = true
+is_step (attempt.Red g f) = true
+is_step (attempt.Tail f) = true
+is_step (attempt.Split f) = false
+
+-- What ends the work on a node without a step: a rule that is tried there parts it.
+abbrev pub Stays : Next → Type 0
+Stays (due.Try a) = is_step a ≡ false
+Stays (due.Closed i) = Unit {0}
+Stays (due.Clashed i j) = Unit {0}
+Stays due.Solved = Unit {0}
+
+-- This is due at the node and is no step, or is due there and stopped.
+abbrev pub HaltedAt : Node → Halt → Type 0
+HaltedAt here (halt.Ended x) = (next_of x ≡ work.next 1 here) × Stays x
+HaltedAt here (halt.Stopped a why) = (work.Try a ≡ work.next 1 here) × (reason_of 1 here a ≡ Some why)
+
+-- The steps and the work on what is left are the whole, and the work halts there.
+pub record Halted (n here : Node) (steps : List Step) (h : Halt) : Type 0 where
+  pub whole : (cons : List Polynomial) → Whole 1 cons n here steps
+  pub at : HaltedAt here h

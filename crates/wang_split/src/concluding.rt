@@ -1,0 +1,188 @@
+// The piece and the children of a node whose work halts.
+ghost use Rattle.std.specs.Prelude.{◌≡◌, ◌≤◌, List, [], false, map, IfOk, None, length};
+ghost use Rattle.poly_model.specs.declared.limits.TheConstants.{EXPAND_UNITS, MOST_CONCLUSIONS};
+ghost use Rattle.proof_steps.specs.Work as order;
+ghost use Rattle.term_store.specs.Changes.{Keeps};
+ghost use Rattle.workbench.specs.Standing.{AreFound, AreHeld, Stands, beneath, node_at, poly_of};
+ghost use Rattle.poly_model.specs.Polynomial.{Polynomial};
+ghost use Rattle.wang_split.specs.Halts.{HaltedAt, Stays, is_step};
+ghost use Rattle.workbench.specs.Dues.{next_of};
+ghost use Rattle.wang_split.specs.Expanded.{Rests};
+
+use crate::working::Halt;
+use poly_model::{OwnedPoly, Row};
+use polynomials::Poly;
+use proof_steps::{Attempt, Node, Outcome, Path, Piece, Step};
+use std::alloc::{AllocError, Global};
+use term_store::TermStore;
+use triangular::reduce_conclusions;
+use workbench::{Bench, Held, Next, Parting, copy_conditions, copy_equations, split};
+
+/// A piece that lists nothing.
+fn bare(alloc: Global, path: Path, steps: Vec<Step>, outcome: Outcome) -> Piece
+    ensures { result
+        ≡ record { path = path; steps = steps.items; eqs = []; nes = []; outcome = outcome } }
+{
+    Piece {
+        path,
+        steps: Row::from_vec(steps),
+        eqs: Row::from_vec(Vec::new(alloc)),
+        nes: Row::from_vec(Vec::new(alloc)),
+        outcome,
+    }
+}
+
+/// A piece that lists what the node has.
+fn listed<S: TermStore>(
+    alloc: Global,
+    s: &S,
+    bench: &Bench,
+    steps: Vec<Step>,
+    outcome: Outcome,
+) -> Result<Piece, AllocError>
+    requires eqs { AreFound (S.state s.now) bench.now.eqs.items }
+    requires nes { AreHeld (S.state s.now) bench.now.nes.items }
+    ensures { IfOk result (λ p. p ≡ record {
+      path = bench.now.path;
+      steps = steps.items;
+      eqs = (node_at (S.state s.now) bench.now).eqs;
+      nes = (node_at (S.state s.now) bench.now).nes;
+      outcome = outcome;
+    }) }
+{
+    let eqs = copy_equations(alloc, s, &bench.eqs)?;
+    let nes = copy_conditions(alloc, s, &bench.nes)?;
+    Ok(Piece {
+        path: bench.path,
+        steps: Row::from_vec(steps),
+        eqs: Row::from_vec(eqs),
+        nes: Row::from_vec(nes),
+        outcome,
+    })
+}
+
+/// The polynomials of these equations.
+fn polys(alloc: Global, hs: &[Held]) -> Result<Vec<Poly>, AllocError>
+    ensures { IfOk result (λ v. v.items ≡ map poly_of hs.now) }
+{
+    let mut ps = Vec::new(alloc);
+    let mut rest = hs;
+    while let Some((first, after)) = rest.split_first() {
+        ps.push(first.poly)?;
+        rest = after;
+    }
+    Ok(ps)
+}
+
+/// The piece of a node whose equations are a triangular system: the conclusions are reduced with
+/// the fuel that is left after the node's own size.
+fn solved<S: TermStore>(
+    alloc: Global,
+    s: &mut S,
+    bench: &Bench,
+    steps: Vec<Step>,
+    cons: &[OwnedPoly],
+) -> Result<Piece, AllocError>
+    requires stands { Stands (beneath (S.state s.old) bench.now) (S.state s.old) [] bench.now }
+    requires room { EXPAND_UNITS ≤ (beneath (S.state s.old) bench.now).spare }
+    requires due { order.Solved ≡ order.next 1 (node_at (S.state s.old) bench.now) }
+    requires cons { length cons.now ≤ MOST_CONCLUSIONS }
+    ensures kept { Keeps (S.state s.old) (S.state s.new) }
+    ensures rests { IfOk result (λ p. Rests cons.now (node_at (S.state s.old) bench.now)
+        steps.items (p, None)) }
+{
+    let eqs = polys(alloc, &bench.eqs)?;
+    let fuel = bench.fuel - bench.size;
+    let (chain, status) = reduce_conclusions(alloc, s, &eqs, cons, fuel)?;
+    let chain = Row::from_vec(chain);
+    listed(alloc, s, bench, steps, Outcome::System { chain, status })
+}
+
+/// The piece and the children of a node that is split, or that is left open since the split is
+/// stopped.
+fn parted<S: TermStore>(
+    alloc: Global,
+    s: &mut S,
+    bench: &Bench,
+    steps: Vec<Step>,
+    attempt: Attempt,
+) -> Result<(Piece, Option<(Node, Node)>), AllocError>
+    requires stands { Stands (beneath (S.state s.old) bench.now) (S.state s.old) [] bench.now }
+    requires room { EXPAND_UNITS ≤ (beneath (S.state s.old) bench.now).spare }
+    requires due { order.Try attempt ≡ order.next 1 (node_at (S.state s.old) bench.now) }
+    requires parts { is_step attempt ≡ false }
+    ensures kept { Keeps (S.state s.old) (S.state s.new) }
+    ensures rests { IfOk result (λ e. (cons : List Polynomial) →
+        Rests cons (node_at (S.state s.old) bench.now) steps.items e) }
+{
+    let Attempt::Split(f) = attempt else {
+        unreachable!()
+    };
+    match split(alloc, s, bench, f)? {
+        Parting::Parted {
+            initial,
+            plus,
+            minus,
+        } => {
+            let outcome = Outcome::Split { f, initial };
+            Ok((bare(alloc, bench.path, steps, outcome), Some((plus, minus))))
+        }
+        Parting::Stopped(reason) => {
+            let what = attempt;
+            let piece = listed(alloc, s, bench, steps, Outcome::Open { reason, what })?;
+            Ok((piece, None))
+        }
+    }
+}
+
+/// The piece and the children of a node where this is due, which is no step.
+fn ended<S: TermStore>(
+    alloc: Global,
+    s: &mut S,
+    bench: &Bench,
+    steps: Vec<Step>,
+    next: Next,
+    cons: &[OwnedPoly],
+) -> Result<(Piece, Option<(Node, Node)>), AllocError>
+    requires stands { Stands (beneath (S.state s.old) bench.now) (S.state s.old) [] bench.now }
+    requires room { EXPAND_UNITS ≤ (beneath (S.state s.old) bench.now).spare }
+    requires due { next_of next ≡ order.next 1 (node_at (S.state s.old) bench.now) }
+    requires stays { Stays next }
+    requires cons { length cons.now ≤ MOST_CONCLUSIONS }
+    ensures kept { Keeps (S.state s.old) (S.state s.new) }
+    ensures rests { IfOk result (λ e. Rests cons.now (node_at (S.state s.old) bench.now)
+        steps.items e) }
+{
+    match next {
+        Next::Closed(i) => Ok((bare(alloc, bench.path, steps, Outcome::Close(i)), None)),
+        Next::Clashed(i, j) => Ok((bare(alloc, bench.path, steps, Outcome::Clash(i, j)), None)),
+        Next::Solved => Ok((solved(alloc, s, bench, steps, cons)?, None)),
+        Next::Try(attempt) => parted(alloc, s, bench, steps, attempt),
+    }
+}
+
+/// The piece and the children of a node whose work halts.
+pub fn conclude<S: TermStore>(
+    alloc: Global,
+    s: &mut S,
+    bench: &Bench,
+    steps: Vec<Step>,
+    halt: Halt,
+    cons: &[OwnedPoly],
+) -> Result<(Piece, Option<(Node, Node)>), AllocError>
+    requires stands { Stands (beneath (S.state s.old) bench.now) (S.state s.old) [] bench.now }
+    requires room { EXPAND_UNITS ≤ (beneath (S.state s.old) bench.now).spare }
+    requires halted { HaltedAt (node_at (S.state s.old) bench.now) halt }
+    requires cons { length cons.now ≤ MOST_CONCLUSIONS }
+    ensures kept { Keeps (S.state s.old) (S.state s.new) }
+    ensures rests { IfOk result (λ e. Rests cons.now (node_at (S.state s.old) bench.now)
+        steps.items e) }
+{
+    match halt {
+        Halt::Ended(next) => ended(alloc, s, bench, steps, next, cons),
+        Halt::Stopped(what, reason) => {
+            let piece = listed(alloc, s, bench, steps, Outcome::Open { reason, what })?;
+            Ok((piece, None))
+        }
+    }
+}

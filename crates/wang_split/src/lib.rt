@@ -1,0 +1,14 @@
+//! One node of a proof worked to its outcome: by the rules of elimination that are due, one after
+//! the other, over any store.
+#![tactic(auto)]
+
+mod concluding;
+mod expanding;
+mod opening;
+mod working;
+
+pub use expanding::expand;
+pub use proof_steps::Node;
+
+#[cfg(test)]
+mod tests;

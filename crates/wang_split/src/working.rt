@@ -1,0 +1,84 @@
+// The rules that are due at a node, one after the other.
+ghost use Rattle.std.specs.Prelude.{◌≡◌, ◌≤◌, [], true, IfOk};
+ghost use Rattle.poly_model.specs.declared.limits.TheConstants.{EXPAND_UNITS};
+ghost use Rattle.proof_steps.specs.Rules.{is_valid};
+ghost use Rattle.workbench.specs.Standing.{Stands, beneath, node_at};
+ghost use Rattle.workbench.specs.Taking.{Took};
+ghost use Rattle.wang_split.specs.Halts.{Halted, is_step};
+
+use proof_steps::{Attempt, Reason, Step};
+use std::alloc::{AllocError, Global};
+use term_store::TermStore;
+use workbench::{Bench, Next, Taken, cut, drop, due, reduce};
+
+/// Where the work on a node halts: at what is due and is no step, or at a step that is stopped.
+#[derive(Clone, Copy, Debug)]
+pub enum Halt {
+    Ended(Next),
+    Stopped(Attempt, Reason),
+}
+
+/// The rule goes on at the node that it leaves.
+fn is_step(attempt: Attempt) -> bool
+    ensures { result ≡ is_step attempt }
+{
+    match attempt {
+        Attempt::Drop(_) | Attempt::Red(_, _) | Attempt::Tail(_) => true,
+        Attempt::Split(_) => false,
+    }
+}
+
+/// Tries a rule that goes on at the node that it leaves.
+fn take<S: TermStore>(
+    alloc: Global,
+    s: &mut S,
+    bench: &mut Bench,
+    attempt: Attempt,
+) -> Result<Taken, AllocError>
+    requires stands { Stands (beneath (S.state s.old) bench.old) (S.state s.old) [] bench.old }
+    requires valid { is_valid 1 (node_at (S.state s.old) bench.old) attempt ≡ true }
+    requires step { is_step attempt ≡ true }
+    requires room { EXPAND_UNITS ≤ (beneath (S.state s.old) bench.old).spare }
+    ensures { Took (beneath (S.state s.old) bench.old) (node_at (S.state s.old) bench.old) attempt
+        result (S.state s.new) bench.new }
+{
+    match attempt {
+        Attempt::Drop(i) => Ok(drop(s, bench, i)),
+        Attempt::Red(g, f) => reduce(alloc, s, bench, g, f),
+        Attempt::Tail(f) => cut(alloc, s, bench, f),
+        Attempt::Split(_) => unreachable!(),
+    }
+}
+
+/// Takes the steps that are due at a node, one after the other.
+pub fn work<S: TermStore>(
+    alloc: Global,
+    s: &mut S,
+    bench: &mut Bench,
+    steps: &mut Vec<Step>,
+) -> Result<Halt, AllocError>
+    requires stands { Stands (beneath (S.state s.old) bench.old) (S.state s.old) [] bench.old }
+    requires room { EXPAND_UNITS ≤ (beneath (S.state s.old) bench.old).spare }
+    requires steps { steps.old.items ≡ [] }
+    ensures stands { Stands (beneath (S.state s.old) bench.old) (S.state s.new) [] bench.new }
+    ensures halted { IfOk result (λ h. Halted (node_at (S.state s.old) bench.old)
+        (node_at (S.state s.new) bench.new) steps.new.items h) }
+{
+    loop {
+        let next = due(s, bench);
+        let Next::Try(attempt) = next else {
+            return Ok(Halt::Ended(next));
+        };
+        if !is_step(attempt) {
+            return Ok(Halt::Ended(next));
+        }
+        match take(alloc, s, bench, attempt) {
+            Err(error) => return Err(error),
+            Ok(Taken::Stopped(why)) => return Ok(Halt::Stopped(attempt, why)),
+            Ok(Taken::Stepped(step)) => match steps.push(step) {
+                Ok(()) => {}
+                Err(refused) => return Err(refused.into()),
+            },
+        }
+    }
+}
