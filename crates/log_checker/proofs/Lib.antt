@@ -1,3 +1,4 @@
 pub mod Inside
 pub mod Tally
 pub mod Fits
+pub mod Exact
