@@ -1,2 +1,4 @@
 pub mod Logs
 pub mod Whole
+pub mod Ready
+pub mod StandIn

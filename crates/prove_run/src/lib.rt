@@ -1,8 +1,10 @@
 //! The log of a program: its problems with their trees and verdicts.
 #![tactic(auto)]
 
+mod growing;
 mod laws;
-mod one;
+mod proving;
+mod stand_in;
 
 pub use laws::{accepted_logs_are_whole, logs_of_problems_are_accepted};
-pub use one::prove_one;
+pub use proving::prove_one;
