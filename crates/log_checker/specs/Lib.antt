@@ -1,3 +1,7 @@
 pub mod Fitting
 pub mod Accepted
 pub mod Answers
+pub mod Stores
+pub mod Amounts
+pub mod Trials
+pub mod Views
