@@ -6,3 +6,4 @@ mod Fitness
 pub mod Inside
 pub mod Tally
 pub mod Fits
+pub mod Exact

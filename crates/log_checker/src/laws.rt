@@ -1,3 +1,5 @@
+ghost use Rattle.std.specs.Prelude.{◌≡◌, ℕ, List};
+ghost use Rattle.log_checker.specs.Answers.{Finding, IsFound};
 ghost use Rattle.log_checker.specs.Accepted.{AcceptedGoesOn, FittingIsAccepted, PiecesAreWritten, PiecesEnd, TalliesTell};
 
 /// The lines of a piece behind its first fit at a node, and end in some nodes, exactly where the piece fits the node and
@@ -16,4 +18,9 @@ pub fn tallies_tell_verdicts()
 pub fn fitting_is_accepted()
     ensures fits { FittingIsAccepted }
     ensures goes { AcceptedGoesOn }
+{}
+
+/// Of no bytes two things are found: they are accepted as the text of one log, or have one first fault.
+pub fn findings_are_unique()
+    ensures { (bytes : List ℕ) (x y : Finding) → IsFound x bytes → IsFound y bytes → x ≡ y }
 {}

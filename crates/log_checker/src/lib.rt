@@ -13,4 +13,6 @@ mod rows;
 mod rules;
 mod triangular;
 
-pub use laws::{fitting_is_accepted, pieces_end_in_what_follows, tallies_tell_verdicts};
+pub use laws::{
+    findings_are_unique, fitting_is_accepted, pieces_end_in_what_follows, tallies_tell_verdicts,
+};
