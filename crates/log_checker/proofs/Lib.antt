@@ -4,6 +4,5 @@ mod Nodes
 mod Trying
 mod Fitness
 pub mod Inside
-pub mod Tally
 pub mod Fits
 pub mod Exact

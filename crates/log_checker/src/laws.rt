@@ -1,17 +1,12 @@
 ghost use Rattle.std.specs.Prelude.{◌≡◌, ℕ, List};
 ghost use Rattle.log_checker.specs.Answers.{Finding, IsFound};
-ghost use Rattle.log_checker.specs.Accepted.{AcceptedGoesOn, FittingIsAccepted, PiecesAreWritten, PiecesEnd, TalliesTell};
+ghost use Rattle.log_checker.specs.Accepted.{AcceptedGoesOn, FittingIsAccepted, PiecesAreWritten, PiecesEnd};
 
 /// The lines of a piece behind its first fit at a node, and end in some nodes, exactly where the piece fits the node and
 /// these nodes follow it. A piece that fits some node is written: nothing of it is left out of its lines.
 pub fn pieces_end_in_what_follows()
     ensures ends { PiecesEnd }
     ensures written { PiecesAreWritten }
-{}
-
-/// The tally of the pieces of a valid tree tells the verdict of the tree.
-pub fn tallies_tell_verdicts()
-    ensures { TalliesTell }
 {}
 
 /// The lines of a log fit, each behind those before it, exactly where the log is accepted. An accepted log is written.

@@ -13,6 +13,4 @@ mod rows;
 mod rules;
 mod triangular;
 
-pub use laws::{
-    findings_are_unique, fitting_is_accepted, pieces_end_in_what_follows, tallies_tell_verdicts,
-};
+pub use laws::{findings_are_unique, fitting_is_accepted, pieces_end_in_what_follows};
