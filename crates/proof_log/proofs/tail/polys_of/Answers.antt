@@ -1,5 +1,4 @@
-use Rattle.std.proofs.Common.{◌≡◌, sym, ◌∙◌, subst, ap, true, Err}
-use Rattle.poly_model.specs.Names.{are_variables}
+use Rattle.std.proofs.Common.{sym, ◌∙◌, subst, ap, true, Err}
 use Rattle.proof_log.proofs.Items.{Going, none_read}
 use Rattle.proof_log.proofs.Plain.{none_left, some_left, same_err}
 use Rattle.proof_log.proofs.Rows.{polys, no_poly_mark, no_poly, one_poly, polys_read}
