@@ -4,10 +4,10 @@
 mod arith;
 mod children;
 mod ending;
-mod piece;
 mod laws;
 mod node;
 mod open;
+mod piece;
 mod reads;
 mod rows;
 mod rules;

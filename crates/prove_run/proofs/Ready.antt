@@ -1,12 +1,12 @@
 -- The children of a node that the work may begin with are such nodes.
-use Rattle.std.proofs.Common.{◌≡◌, ℕ, ◌+◌, ◌-◌, ◌<◌, ◌≤◌, List, [], ◌∷◌, ◌++◌, length, sym, subst, arith, true, false, Some}
+use Rattle.std.proofs.Common.{◌≡◌, ℕ, ◌+◌, ◌-◌, ◌≤◌, List, [], ◌∷◌, length, subst, arith, true, false, Some}
 use Rattle.std.proofs.lemmas.List.{length-set}
 use Rattle.std.proofs.lemmas.Option.{same_Some}
 use Rattle.poly_model.specs.Polynomial.{Polynomial}
 use Rattle.poly_model.specs.Reduction.{primitive_initial, primitive_tail, reduction_of}
 use Rattle.poly_model.specs.declared.limits.TheConstants.{MOST_FUEL, MOST_HYPOTHESES}
 use Rattle.proof_steps.specs.Numbers.{item, replaced}
-use Rattle.proof_steps.specs.Rules.{size_of, stepped}
+use Rattle.proof_steps.specs.Rules.{stepped}
 use Rattle.proof_steps.specs.Trees.{after_steps, children, follow}
 use Rattle.proof_steps.specs.declared.piece.Node.{Node}
 use Rattle.proof_steps.specs.declared.piece.Outcome.{Outcome}

@@ -1,4 +1,3 @@
 pub mod Logs
 pub mod Whole
 pub mod Ready
-pub mod StandIn

@@ -1,5 +1,5 @@
 -- The nodes that the work may begin with.
-use Rattle.std.specs.Prelude.{ℕ, ◌+◌, ◌≤◌, length}
+use Rattle.std.specs.Prelude.{◌+◌, ◌≤◌, length}
 use Rattle.poly_model.specs.declared.limits.TheConstants.{MOST_FUEL, MOST_HYPOTHESES}
 use Rattle.proof_steps.specs.Rules.{size_of}
 use Rattle.proof_steps.specs.declared.piece.Node.{Node}

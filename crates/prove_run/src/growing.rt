@@ -3,20 +3,17 @@ ghost use Rattle.poly_model.specs.declared.limits.TheConstants.{EXPAND_UNITS, MO
 ghost use Rattle.proof_steps.specs.Trees.{tree_at};
 ghost use Rattle.proof_log.specs.declared.limits.TheConstants.{VERSION};
 ghost use Rattle.term_store.specs.Changes.{Keeps};
-ghost use Rattle.prove_run.specs.StandIn.{nodes_of};
+ghost use Rattle.wang_split.specs.Expanded.{nodes_of};
 ghost use Rattle.prove_run.specs.Ready.{IsReady};
 
-use crate::stand_in::expand;
 use poly_model::OwnedPoly;
 use proof_steps::{Node, Piece};
 use std::alloc::{AllocError, Global};
 use term_store::TermStore;
+use wang_split::expand;
 
 /// The children wait too, the `+` child above the `-` child.
-fn push_children(
-    waiting: &mut Vec<Node>,
-    children: Option<(Node, Node)>,
-) -> Result<(), AllocError>
+fn push_children(waiting: &mut Vec<Node>, children: Option<(Node, Node)>) -> Result<(), AllocError>
     ensures { OnOk result (reverse waiting.new.items
         ≡ nodes_of children ++ reverse waiting.old.items) }
 {

@@ -4,7 +4,6 @@
 mod growing;
 mod laws;
 mod proving;
-mod stand_in;
 
 pub use laws::{accepted_logs_are_whole, logs_of_problems_are_accepted};
 pub use proving::prove_one;

@@ -1,14 +1,12 @@
-use Rattle.std.proofs.Common.{◌≡◌, ◌≤◌, List, length, sym, ◌∙◌, ap, subst, arith, Ok}
+use Rattle.std.proofs.Common.{sym, ◌∙◌, ap, subst, arith, Ok}
 use Rattle.std.specs.Prelude.{All}
-use Rattle.std.proofs.lemmas.List.{length-map}
-use Rattle.poly_model.specs.declared.limits.TheConstants.{MOST_FUEL}
 use Rattle.proof_log.specs.Accepted.{IsAccepted}
-use Rattle.proof_log.specs.declared.limits.TheConstants.{MOST_PROOFS, VERSION}
+use Rattle.proof_log.specs.declared.limits.TheConstants.{VERSION}
 use Rattle.proof_log.specs.declared.log.Proof.{Proof}
 use Rattle.prove_run.specs.Logs.{log_of}
 use Rattle.prove_run.specs.Whole.{IsPosed, IsWhole}
 use Rattle.prove_run.proofs.Logs.{log-length, logs-accepted}
-use Rattle.prove_run.proofs.Program.{few-problems, program-log, program-refused}
+use Rattle.prove_run.proofs.Program.{few-problems, program-log}
 use Rattle.prove_run.proofs.Written.{accepted-whole}
 use Rattle.prove_run.proofs.proving.prove_one.Goals as goal
 
