@@ -4,6 +4,8 @@ ghost use Rattle.desk_io.specs.Bytes.{Puts};
 ghost use Rattle.desk_io.specs.Causes.{HasCause, Rose};
 ghost use Rattle.gcl_reader.specs.Grammar.{Gives};
 ghost use Rattle.proof_log.specs.Own.{IsOwn};
+ghost use Rattle.proof_log.specs.declared.limits.TheConstants.{VERSION};
+ghost use Rattle.prove_run.specs.Whole.{IsWhole};
 ghost use Rattle.command_line.specs.Answer.{answer_from};
 ghost use Rattle.command_line.specs.Contract.{IsQuiet};
 ghost use Rattle.command_line.specs.Proving.{proofs_of, proved, proves, status_of, log_text};
@@ -26,7 +28,7 @@ use verdicts::Verdict;
 fn prove_file(alloc: Global, bytes: &[u8]) -> Result<Log, GclFault>
     requires { length bytes.now ≤ MOST_BYTES }
     ensures value { Gives (λ log. log.proofs) result (proofs_of bytes.now) }
-    ensures own { IfOk result (λ log. All IsOwn log.proofs) }
+    ensures whole { IfOk result (λ log. IsWhole VERSION log.proofs) }
 {
     let file = read(alloc, bytes)?;
     let program = resolve(alloc, &file)?;
@@ -72,7 +74,7 @@ fn put_log<S: Sink>(log: &Log, mut pen: Pen, out: &mut S) -> Result<(), Failed>
 
 // Puts the log, and behind it the lines of its verdicts.
 fn put_proofs<S: Sink, N: Sink>(alloc: Global, log: &Log, out: &mut S, notes: &mut N) -> Status
-    requires { All IsOwn log.now.proofs }
+    requires { IsWhole VERSION log.now.proofs }
     ensures ends { Ends (proved log.now.proofs)
         (S.written out.old) (S.written out.new) (N.written notes.old) (N.written notes.new) result }
     ensures status { (result ≡ Status.Done) ⊎ (result ≡ Status.Unproved)

@@ -1,11 +1,19 @@
-use Rattle.std.proofs.Common.{◌≡◌, ◌∙◌, [], ◌++◌, ap, refl, sym, subst, inl, inr}
+use Rattle.std.proofs.Common.{All, ◌∙◌, ap, sym, subst}
 use Rattle.std.specs.List.{flat_map}
 use Rattle.desk_io.proofs.Growth.{append_known-none}
-use Rattle.proof_log.specs.declared.log.Proof.{Proof}
+use Rattle.proof_log.proofs.Owned.{log-own}
+use Rattle.proof_log.specs.Own.{IsOwn}
+use Rattle.proof_log.specs.declared.limits.TheConstants.{VERSION}
 use Rattle.command_line.specs.Proving.{proved, status_of}
 use Rattle.command_line.specs.VerdictLines.{verdicts_text, problems_in, verdicts_in}
 use Rattle.command_line.proofs.Outcomes.{put_failed_ends}
 use Rattle.command_line.proofs.proving.put_proofs.Goals as goal
+
+pub all_verdict_lines-requires : goal.all_verdict_lines-requires
+all_verdict_lines-requires g c = subst (All IsOwn) (sym c.as_slice.ensures) (log-own VERSION c.args.log.now.proofs c.requires.written c.requires.lines)
+
+pub put_log-requires-own : goal.put_log-requires-own
+put_log-requires-own g c = log-own VERSION c.args.log.now.proofs c.requires.written c.requires.lines
 
 pub returns-in-Ok-put_log-clause-ends : goal.returns-in-Ok-put_log-clause-ends
 returns-in-Ok-put_log-clause-ends g c =
