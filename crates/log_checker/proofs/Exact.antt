@@ -132,7 +132,7 @@ misfit_within : (a more : List LogLine) (l : LogLine) (s t : State) (ls : List L
 unfolding fitted
 misfit_within a more l s t ls fit none e f =
     let h : fitted begin ((a ++ l ∷ []) ++ more) ≡ None = ap (fitted begin) (append_assoc a (l ∷ []) more) ∙ fitted_append begin s a (l ∷ more) fit
-        ∙ ap (λ (o : Option State). elim o as (λ _. Option State) [ None ↦ None | Some u ↦ fitted u more ]) none in
+    ∙ ap (λ (o : Option State). elim o as (λ _. Option State) [ None ↦ None | Some u ↦ fitted u more ]) none in
     let g : ◌≡◌ {A = Option State} None (Some t) = sym h ∙ ap (fitted begin) (sym e) ∙ f in cc
 
 -- ---- two findings
@@ -205,7 +205,7 @@ rejected_longer bytes n m w v a b [] e =
 rejected_longer bytes n m w v a b (l ∷ more) e =
     let r = last_of (l ∷ more) (λ h. cc) in
     let s = snoc_same b.front ((a.front ++ a.line ∷ []) ++ r.0) b.line r.1
-        (e ∙ ap (λ t. (a.front ++ a.line ∷ []) ++ t) r.2 ∙ sym (append_assoc (a.front ++ a.line ∷ []) r.0 (r.1 ∷ []))) in
+    (e ∙ ap (λ t. (a.front ++ a.line ∷ []) ++ t) r.2 ∙ sym (append_assoc (a.front ++ a.line ∷ []) r.0 (r.1 ∷ []))) in
     absurd (misfit_within a.front r.0 a.line a.state b.state b.front a.fit a.misfit s.0 b.fit)
 
 two_rejected : (bytes : List ℕ) (n m : ℕ) (w v : LineWord) → IsRejected n w bytes → IsRejected m v bytes → (n ≡ m) × (w ≡ v)
