@@ -8,7 +8,8 @@ use Rattle.proof_steps.specs.declared.piece.LeafStatus.{LeafStatus}
 -- The steps that were made, and the chain of what is left with what is left of the fuel, are the chain of the conclusions.
 pub record Chains (E cons : List Polynomial) (fuel k : ℕ) (ps : List Polynomial) (steps : List ChainStep) (left : ℕ) : Type 0 where
   pub paid : left + length steps ≤ fuel
-  pub same : chain_of E cons fuel ≡ (steps ++ (chain_within (suc (fuel - length steps)) E k ps left).0, (chain_within (suc (fuel - length steps)) E k ps left).1)
+  pub same : chain_of E cons fuel
+      ≡ (steps ++ (chain_within (suc (fuel - length steps)) E k ps left).0, (chain_within (suc (fuel - length steps)) E k ps left).1)
 
 -- What the reduction of the k-th conclusion comes to: it is 0, and the next ones are left, or the chain is done.
 abbrev pub Ends : (E cons : List Polynomial) → (fuel k : ℕ) → List Polynomial → List ChainStep → ℕ → Option LeafStatus → Type 0

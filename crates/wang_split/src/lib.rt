@@ -5,6 +5,8 @@
 mod concluding;
 mod expanding;
 mod opening;
+#[cfg(test)]
+mod tests;
 mod working;
 
 pub use expanding::expand;
