@@ -6,3 +6,6 @@ pub mod Logs
 pub mod Ready
 pub mod Stack
 pub mod Program
+pub mod Branches
+pub mod Expanded
+pub mod Proved

@@ -1,3 +1,4 @@
 pub mod Logs
 pub mod Whole
 pub mod Ready
+pub mod Branches

@@ -2,6 +2,7 @@
 use Rattle.std.specs.Prelude.{ℕ, ◌/◌, List, map, length, Result, Ok}
 use Rattle.poly_model.specs.declared.limits.TheConstants.{MOST_FUEL}
 use Rattle.proof_steps.specs.Trees.{tree_of}
+use Rattle.proof_steps.specs.declared.piece.Piece.{Piece}
 use Rattle.proof_steps.specs.declared.problem.Problem.{Problem}
 use Rattle.verdicts.specs.Verdicts.{verdict_of}
 use Rattle.proof_log.specs.declared.limits.TheConstants.{VERSION}
@@ -12,10 +13,13 @@ use Rattle.gcl_names.specs.declared.program.Act.{Act}
 use Rattle.algebraize.specs.Equations.{Equations}
 use Rattle.algebraize.specs.Problem.{problems_of}
 
--- A problem with the tree that the order of work gives, and the verdict of that.
+-- A problem with a tree of these pieces, and the verdict of that.
+abbrev pub proof_with : Problem → List Piece → Proof
+proof_with problem pieces = record { problem = problem; tree = record { pieces = pieces }; verdict = verdict_of pieces }
+
+-- A problem with the tree that the order of work gives.
 abbrev pub proof_of : (version fuel : ℕ) → Problem → Proof
-proof_of version fuel problem =
-    record { problem = problem; tree = record { pieces = tree_of version problem fuel }; verdict = verdict_of (tree_of version problem fuel) }
+proof_of version fuel problem = proof_with problem (tree_of version problem fuel)
 
 -- The log of problems: each proof has an equal share of the fuel.
 abbrev pub log_of : (version : ℕ) → List Problem → List Proof

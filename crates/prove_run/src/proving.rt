@@ -9,19 +9,19 @@ ghost use Rattle.proof_steps.specs.Rules.{size_of};
 ghost use Rattle.proof_steps.specs.Stated.{IsStated};
 ghost use Rattle.proof_steps.specs.Trees.{root_of};
 ghost use Rattle.term_store.specs.Changes.{Keeps};
-ghost use Rattle.term_store.specs.Holding.{held_by};
-ghost use Rattle.prove_run.specs.Logs.{log_of, log_of_program, proof_of};
+ghost use Rattle.prove_run.specs.Logs.{log_of, log_of_program, proof_of, proof_with};
 ghost use Rattle.prove_run.specs.Whole.{IsPosed, IsWhole};
 
 use crate::growing::grow;
+use crate::room::roomy_store;
 use algebraize::problems;
 use gcl_names::Program;
 use gcl_reader::GclFault;
-use poly_model::{EXPAND_UNITS, MOST_FUEL, OwnedPoly, Row};
+use poly_model::{MOST_FUEL, OwnedPoly, Row};
 use proof_log::{Log, Proof};
-use proof_steps::{Node, Path, Problem, Tree};
+use proof_steps::{Node, Path, Piece, Problem, Tree};
 use std::alloc::{AllocError, Global};
-use term_store::{TermStore, VecStore};
+use term_store::TermStore;
 use verdicts::judge;
 
 fn copies(alloc: Global, polynomials: &[OwnedPoly]) -> Result<Vec<OwnedPoly>, AllocError>
@@ -32,6 +32,34 @@ fn copies(alloc: Global, polynomials: &[OwnedPoly]) -> Result<Vec<OwnedPoly>, Al
         copies.push(p.copy(alloc)?)?;
     }
     Ok(copies)
+}
+
+/// The node that the tree of the problem begins with.
+pub fn root_node(alloc: Global, problem: &Problem, fuel: u32) -> Result<Node, AllocError>
+    ensures { IfOk result (λ root. root ≡ root_of problem.now fuel) }
+{
+    Ok(Node {
+        path: Path::root(),
+        eqs: Row::from_vec(copies(alloc, problem.hyps.as_slice())?),
+        nes: Row::from_vec(Vec::new(alloc)),
+        fuel,
+    })
+}
+
+/// The problem with the tree of these pieces, and the verdict of that.
+pub fn judged(alloc: Global, problem: Problem, pieces: Vec<Piece>) -> Result<Proof, AllocError>
+    ensures proof { IfOk result (λ p. p ≡ proof_with problem pieces.items) }
+    ensures vars { IfOk result (λ p. IsTrue (are_variables p.problem.vars)) }
+{
+    let tree = Tree {
+        pieces: Row::from_vec(pieces),
+    };
+    let verdict = judge(alloc, &tree)?;
+    Ok(Proof {
+        problem,
+        tree,
+        verdict,
+    })
 }
 
 /// The problem with the tree that the order of work gives, with so much fuel, and the verdict of that.
@@ -49,33 +77,9 @@ fn prove<S: TermStore>(
     ensures vars { IfOk result (λ p. IsTrue (are_variables p.problem.vars)) }
     ensures kept { Keeps (S.state s.old) (S.state s.new) }
 {
-    let root = Node {
-        path: Path::root(),
-        eqs: Row::from_vec(copies(alloc, problem.hyps.as_slice())?),
-        nes: Row::from_vec(Vec::new(alloc)),
-        fuel,
-    };
+    let root = root_node(alloc, &problem, fuel)?;
     let pieces = grow(alloc, s, root, problem.cons.as_slice())?;
-    let tree = Tree {
-        pieces: Row::from_vec(pieces),
-    };
-    let verdict = judge(alloc, &tree)?;
-    Ok(Proof {
-        problem,
-        tree,
-        verdict,
-    })
-}
-
-/// A store with room for the work on a node.
-fn roomy_store(alloc: Global) -> Result<VecStore, AllocError>
-    ensures { IfOk result (λ s. EXPAND_UNITS ≤ (held_by s).spare) }
-{
-    let mut store = VecStore::new(alloc)?;
-    match store.reserve(EXPAND_UNITS) {
-        Ok(()) => Ok(store),
-        Err(_) => Err(AllocError),
-    }
+    judged(alloc, problem, pieces)
 }
 
 /// The log of the problems: each has an equal share of the fuel, and all have one store.
