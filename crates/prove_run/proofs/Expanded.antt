@@ -43,7 +43,7 @@ outcome-below : (version : ℕ) (cons : List Polynomial) (n : Node) (p : Piece) 
     → outcome_fits version cons n p x ≡ true → AreBelow n.path (children version n x)
 outcome-below version cons n p (outcome.Split f initial) low h =
     let a = and_parts (is_valid version n (attempt.Split f) && same_reason (reason_of version n (attempt.Split f)) None)
-        (same initial (primitive_initial (item n.eqs f)) && lists_none p) h in
+    (same initial (primitive_initial (item n.eqs f)) && lists_none p) h in
     let b = and_parts (is_valid version n (attempt.Split f)) (same_reason (reason_of version n (attempt.Split f)) None) a.0 in
     let free = none-reason (reason_of version n (attempt.Split f)) b.1 in
     let limit : limit_of version n (attempt.Split f) ≡ None = ((reasons-are-right version n (attempt.Split f)).2.1 free).0 in
@@ -88,8 +88,7 @@ below-waiting path (Some pair) r b =
     let plus = ap (λ (q : List Bool). length q) b.0 in
     let minus = ap (λ (q : List Bool). length q) b.1 in
     let one = length-more path true in
-    let two = length-more path false in
-    (
+    let two = length-more path false in (
       record { ready = r.0; letters = omega (arith, plus, one, short) },
       record { ready = r.1.0; letters = omega (arith, minus, two, short) },
     )

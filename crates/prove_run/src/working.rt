@@ -92,7 +92,10 @@ impl<K: Named> Work for Growing<'_, K> {
         match children {
             None => Ok((piece, None)),
             Some((plus, minus)) => {
-                Ok((piece, Some((Waiting { node: plus }, Waiting { node: minus }))))
+                Ok((
+                    piece,
+                    Some((Waiting { node: plus }, Waiting { node: minus })),
+                ))
             }
         }
     }

@@ -14,5 +14,5 @@ pub loop-problem-preserved : goal.loop-problem-preserved
 loop-problem-preserved g c =
     let s = first-stated _ c.in-Some.problem _ c.in-Some.ensures.steps.0 c.loop-problem.invariant.stated in
     let after = one-more _ _ _ _ c.in-Some.problem c.in_ok-prove.field-0 c.loop-problem.invariant.proved c.in_ok-push.ensures.items s.0
-        c.in_ok-prove.ensures.proof c.in_ok-prove.ensures.vars in
-    record { next = tt; finite = tt; stated = s.1; proved = after; }
+    c.in_ok-prove.ensures.proof c.in_ok-prove.ensures.vars in
+    record { next = tt; finite = tt; stated = s.1; proved = after }
