@@ -121,17 +121,18 @@ within front b y bytes s g = elim (begins_two front b (rest_of front bytes s) y 
 fitted_append : (s t : State) (a b : List LogLine) → fitted s a ≡ Some t → fitted s (a ++ b) ≡ fitted t b
 unfolding fitted
 fitted_append s t [] b e = ap (λ (o : Option State). elim o [ None ↦ fitted s b | Some u ↦ fitted u b ]) e
-fitted_append s t (l ∷ a) b e = by (after s l) e where
+fitted_append s t (l ∷ a) b e = by (after s l) e (λ u. fitted_append u t a b) where
   by : (o : Option State) → ◌≡◌ {A = Option State} (elim o [ None ↦ None | Some u ↦ fitted u a ]) (Some t)
+      → ((u : State) → fitted u a ≡ Some t → fitted u (a ++ b) ≡ fitted t b)
       → ◌≡◌ {A = Option State} (elim o [ None ↦ None | Some u ↦ fitted u (a ++ b) ]) (fitted t b)
-  by None h = cc
-  by (Some u) h = fitted_append u t a b h
+  by None h more = cc
+  by (Some u) h more = more u h
 
 misfit_within : (a more : List LogLine) (l : LogLine) (s t : State) (ls : List LogLine) → fitted begin a ≡ Some s → after s l ≡ None → ls ≡ (a ++ l ∷ []) ++ more → fitted begin ls ≡ Some t → ⊥
 unfolding fitted
 misfit_within a more l s t ls fit none e f =
     let h : fitted begin ((a ++ l ∷ []) ++ more) ≡ None = ap (fitted begin) (append_assoc a (l ∷ []) more) ∙ fitted_append begin s a (l ∷ more) fit
-        ∙ ap (λ (o : Option State). elim o as (λ _. Option State) [ None ↦ None | Some u ↦ fitted u more ]) none in
+    ∙ ap (λ (o : Option State). elim o as (λ _. Option State) [ None ↦ None | Some u ↦ fitted u more ]) none in
     let g : ◌≡◌ {A = Option State} None (Some t) = sym h ∙ ap (fitted begin) (sym e) ∙ f in cc
 
 -- ---- two findings
@@ -204,7 +205,7 @@ rejected_longer bytes n m w v a b [] e =
 rejected_longer bytes n m w v a b (l ∷ more) e =
     let r = last_of (l ∷ more) (λ h. cc) in
     let s = snoc_same b.front ((a.front ++ a.line ∷ []) ++ r.0) b.line r.1
-        (e ∙ ap (λ t. (a.front ++ a.line ∷ []) ++ t) r.2 ∙ sym (append_assoc (a.front ++ a.line ∷ []) r.0 (r.1 ∷ []))) in
+    (e ∙ ap (λ t. (a.front ++ a.line ∷ []) ++ t) r.2 ∙ sym (append_assoc (a.front ++ a.line ∷ []) r.0 (r.1 ∷ []))) in
     absurd (misfit_within a.front r.0 a.line a.state b.state b.front a.fit a.misfit s.0 b.fit)
 
 two_rejected : (bytes : List ℕ) (n m : ℕ) (w v : LineWord) → IsRejected n w bytes → IsRejected m v bytes → (n ≡ m) × (w ≡ v)

@@ -6,3 +6,6 @@ mod Fitness
 pub mod Inside
 pub mod Fits
 pub mod Exact
+mod Listing
+mod Dues
+mod Chains

@@ -5,3 +5,5 @@ pub mod Stores
 pub mod Amounts
 pub mod Trials
 pub mod Views
+pub mod Lists
+pub mod Turns

@@ -2,9 +2,12 @@
 #![tactic(auto)]
 
 mod arith;
+mod chain;
 mod children;
+mod due;
 mod ending;
 mod laws;
+mod lists;
 mod node;
 mod open;
 mod piece;

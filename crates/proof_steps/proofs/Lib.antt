@@ -3,3 +3,4 @@ pub mod Word
 pub mod Paths
 pub mod Search
 pub mod Following
+pub mod Reducing

@@ -9,3 +9,4 @@ pub mod Trees
 pub mod Stated
 pub mod Leaves
 pub mod Left
+pub mod Classes
