@@ -15,5 +15,6 @@ mod reads;
 mod rows;
 mod rules;
 mod triangular;
+mod within;
 
 pub use laws::{findings_are_unique, fitting_is_accepted, pieces_end_in_what_follows};
