@@ -38,7 +38,7 @@ pub invalid : {A : Type 0} (valid rest tells : Bool) (m : A) → valid ≡ false
 invalid true rest tells m v = cc
 invalid false rest tells m v = refl
 
-limited : (why : Reason) → same_reason (Some why) None ≡ false
+pub limited : (why : Reason) → same_reason (Some why) None ≡ false
 limited reason.Degree = refl
 limited reason.Bound = refl
 limited reason.Terms = refl

@@ -1,3 +1,4 @@
+pub mod Reducing
 mod Stores
 mod Terms
 mod Nodes
@@ -6,3 +7,6 @@ mod Fitness
 pub mod Inside
 pub mod Fits
 pub mod Exact
+mod Listing
+mod Dues
+mod Chains

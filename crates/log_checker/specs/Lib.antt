@@ -1,3 +1,4 @@
+pub mod Classes
 pub mod Fitting
 pub mod Accepted
 pub mod Answers
@@ -5,3 +6,5 @@ pub mod Stores
 pub mod Amounts
 pub mod Trials
 pub mod Views
+pub mod Lists
+pub mod Turns

@@ -2,9 +2,12 @@
 #![tactic(auto)]
 
 mod arith;
+mod chain;
 mod children;
+mod due;
 mod ending;
 mod laws;
+mod lists;
 mod node;
 mod open;
 mod piece;
@@ -12,5 +15,6 @@ mod reads;
 mod rows;
 mod rules;
 mod triangular;
+mod within;
 
 pub use laws::{findings_are_unique, fitting_is_accepted, pieces_end_in_what_follows};

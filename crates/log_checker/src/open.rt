@@ -10,7 +10,7 @@ ghost use Rattle.log_checker.specs.Views.{inside_views};
 
 use crate::children::{children, copies};
 use crate::node::{with_equation, with_fuel, without};
-use crate::piece::{Behind, Inside, Leaf};
+use crate::piece::{Inside, Lists};
 use crate::rules::{Trial, may_drop, try_red, try_split, try_tail};
 use poly_model::{Reason, Row};
 use proof_steps::{Attempt, Node};
@@ -168,11 +168,11 @@ pub fn open_row<S: TermStore>(
         return Ok(None);
     }
     let Node { eqs, nes, .. } = node;
-    Ok(Some(Inside::Listing(Leaf {
+    let lists = Lists {
         eqs,
         nes,
         eqs_listed: 0,
         nes_listed: 0,
-        behind: Behind::Stop(told),
-    })))
+    };
+    Ok(Some(Inside::Stopped(lists, told)))
 }

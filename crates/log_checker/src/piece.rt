@@ -1,36 +1,38 @@
 // Where the lines of a piece stand.
+ghost use Rattle.std.specs.Prelude.{◌≡◌, true};
+ghost use Rattle.proof_steps.specs.Rules.{is_triangular};
+
 use crate::ending::Ending;
 use poly_model::{OwnedPoly, Reason, Row};
 use proof_steps::Node;
 
-/// What goes on behind the lists of a leaf: the reduction of the conclusions, of which the first ones are done, by the
-/// equations, with so much fuel; or nothing, where the work stops.
+/// The equations and conditions of a leaf, which are listed as far as these numbers.
 #[derive(Debug, Drop)]
-pub enum Behind {
-    Chain {
-        cons: Row<OwnedPoly>,
-        done: usize,
-        fuel: u32,
-    },
-    Stop(Reason),
-}
-
-/// A leaf whose equations and conditions are listed as far as these numbers.
-#[derive(Debug, Drop)]
-pub struct Leaf {
+pub struct Lists {
     pub eqs: Row<OwnedPoly>,
     pub nes: Row<OwnedPoly>,
     pub eqs_listed: usize,
     pub nes_listed: usize,
-    pub behind: Behind,
 }
 
-/// Where the lines of a piece stand: at a node behind some steps, at a leaf with lists, behind a split, or at the end of a
-/// leaf.
+/// A triangular system: the conclusions as far as they are reduced, of which the first ones are done, and the fuel that is
+/// left.
+#[derive(Debug, Drop)]
+pub struct System {
+    pub lists: Lists,
+    pub cons: Row<OwnedPoly>,
+    pub done: usize,
+    pub fuel: u32,
+    pub ghost triangular: { is_triangular lists.eqs lists.nes ≡ true },
+}
+
+/// Where the lines of a piece stand: at a node behind some steps, at a system, at a leaf where the work stops, behind a
+/// split, or at the end of a leaf.
 #[derive(Debug, Drop)]
 pub enum Inside {
     At(Node),
-    Listing(Leaf),
+    Solving(System),
+    Stopped(Lists, Reason),
     Parted {
         plus: Node,
         minus: Node,

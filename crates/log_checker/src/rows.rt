@@ -12,7 +12,7 @@ ghost use Rattle.log_checker.specs.Views.{inside_view, inside_views};
 use crate::children::{children, copies};
 use crate::ending::Ending;
 use crate::node::{fuel_beside, with_equation, with_fuel, without};
-use crate::piece::{Behind, Inside, Leaf};
+use crate::piece::{Inside, Lists, System};
 use crate::reads::{is_number, numbered};
 use crate::rules::{Trial, may_drop, try_red, try_split, try_tail};
 use crate::triangular::is_triangular;
@@ -148,15 +148,15 @@ pub fn system_row<S: TermStore>(
     }
     let left = fuel_beside(eqs.as_slice(), nes.as_slice(), fuel).unwrap_or(0);
     let cons = Row::from_vec(copies(alloc, cons)?);
-    Ok(Some(Inside::Listing(Leaf {
-        eqs,
-        nes,
-        eqs_listed: 0,
-        nes_listed: 0,
-        behind: Behind::Chain {
-            cons,
-            done: 0,
-            fuel: left,
+    Ok(Some(Inside::Solving(System {
+        lists: Lists {
+            eqs,
+            nes,
+            eqs_listed: 0,
+            nes_listed: 0,
         },
+        cons,
+        done: 0,
+        fuel: left,
     })))
 }

@@ -1,0 +1,12 @@
+use Rattle.std.proofs.Common.{◌≡◌, ◌≤◌, length, max}
+use Rattle.std.specs.Prelude.{if◌then◌else◌}
+use Rattle.poly_model.specs.Reduction.{class_of, reaches}
+use Rattle.poly_model.specs.declared.limits.TheConstants.{MOST_VARIABLES}
+use Rattle.proof_steps.specs.Chain.{reducing_class}
+use Rattle.log_checker.proofs.due.reducing_class.Given as goal
+
+abbrev pub invariant-loop-first : goal.invariant-loop-first
+invariant-loop-first l = (max l.greatest (reducing_class l.rest l.p) ≡ reducing_class l.eqs l.p) × (l.greatest ≤ MOST_VARIABLES)
+
+abbrev pub decreases-loop-first : goal.decreases-loop-first
+decreases-loop-first l = length l.rest

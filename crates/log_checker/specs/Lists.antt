@@ -1,0 +1,26 @@
+-- Lists of polynomials that are told one by one.
+use Rattle.std.specs.Prelude.{ℕ, List, [], ◌∷◌, drop, Bool, true, false, Option, Some, None}
+use Rattle.poly_model.specs.Polynomial.{Polynomial}
+use Rattle.poly_model.specs.Reduction.{same}
+use Rattle.log_checker.specs.Fitting.{Inside, Work, where_fits}
+use Rattle.log_checker.specs.Views.{listing}
+use Rattle.log_checker.specs.declared.piece.Lists.{Lists}
+
+-- None is left to be told.
+abbrev pub are_told : List Polynomial → Bool
+are_told [] = true
+are_told (p ∷ ps) = false
+
+-- What is left behind a line that tells the first of these.
+abbrev pub told : Polynomial → List Polynomial → Option (List Polynomial)
+told p [] = None
+told p (q ∷ qs) = where_fits (same p q) qs
+
+abbrev pub left_of : List Polynomial → Option ℕ → Option (List Polynomial)
+left_of ps None = None
+left_of ps (Some k) = Some (drop k ps)
+
+-- Where a piece stands behind a line of its lists, by the number that is listed then.
+abbrev pub lists_row : (ℕ → Lists) → Work → Option ℕ → Option Inside
+lists_row lists w None = None
+lists_row lists w (Some k) = Some (listing (lists k) w)

@@ -1,0 +1,95 @@
+// What is due of the conclusions at a system.
+ghost use Rattle.std.specs.Prelude.{◌≡◌, ◌≤◌, suc, drop, if◌then◌else◌, length, List, IfNone, IfSome};
+ghost use Rattle.poly_model.specs.Polynomial.{Polynomial};
+ghost use Rattle.poly_model.specs.Reduction.{class_of, reaches};
+ghost use Rattle.poly_model.specs.declared.limits.TheConstants.{MOST_VARIABLES};
+ghost use Rattle.proof_steps.specs.Chain.{AllZero, due_of, reducing_class, first_of_class};
+ghost use Rattle.log_checker.specs.Classes.{HaveOwnClasses};
+ghost use Rattle.log_checker.specs.Turns.{IsDue, IsFirstLeft};
+
+use crate::node::reaches;
+use crate::reads::{class_number, term_count};
+use poly_model::OwnedPoly;
+
+/// The conclusions from some place on are all 0, or the first other than 0 is at a place and left, or it is reduced by the
+/// equation of a number, whose greatest variable is at a place.
+#[derive(Clone, Copy, Debug)]
+pub enum Due {
+    AllZero,
+    Left(usize),
+    Reduce { at: usize, f: usize, var: u8 },
+}
+
+/// The class of an equation whose degree the polynomial reaches, and 0 of another.
+fn class_reached(f: &OwnedPoly, p: &OwnedPoly) -> u8
+    ensures class { result ≡ (if reaches p.now f.now then class_of f.now else 0) }
+    ensures within { result ≤ MOST_VARIABLES }
+{
+    let class = class_number(f);
+    if class == 0 {
+        return 0;
+    }
+    if reaches(p, f, class - 1) { class } else { 0 }
+}
+
+/// The greatest class of an equation whose degree the polynomial reaches, and 0 where there is none.
+fn reducing_class(eqs: &[OwnedPoly], p: &OwnedPoly) -> u8
+    ensures class { result ≡ reducing_class eqs.now p.now }
+    ensures within { result ≤ MOST_VARIABLES }
+{
+    let mut greatest = 0;
+    let mut rest = eqs;
+    while let Some((first, after)) = rest.split_first() {
+        greatest = class_reached(first, p).max(greatest);
+        rest = after;
+    }
+    greatest
+}
+
+/// The number of the first equation of a class, and 0 where there is none.
+fn first_of_class(eqs: &[OwnedPoly], x: u8) -> usize
+    ensures place { result ≡ first_of_class eqs.now x }
+    ensures within { result ≤ length eqs.now }
+{
+    for i in 0..eqs.len() {
+        if class_number(&eqs[i]) == x {
+            return i + 1;
+        }
+    }
+    0
+}
+
+/// The place of the first polynomial from a place on that is not 0, if there is one.
+fn first_left(cons: &[OwnedPoly], from: usize) -> Option<usize>
+    ensures none { IfNone result ((E : List Polynomial)
+        → due_of E (suc from) (drop from cons.now) ≡ AllZero) }
+    ensures some { IfSome result (λ at. IsFirstLeft cons.now from at) }
+{
+    let mut at = from;
+    while at < cons.len() {
+        if term_count(&cons[at]) > 0 {
+            return Some(at);
+        }
+        at += 1;
+    }
+    None
+}
+
+/// What is due of the conclusions from a place on.
+pub fn next_due(eqs: &[OwnedPoly], cons: &[OwnedPoly], done: usize) -> Due
+    requires own { HaveOwnClasses eqs.now }
+    ensures { IsDue eqs.now cons.now done result }
+{
+    let Some(at) = first_left(cons, done) else {
+        return Due::AllZero;
+    };
+    let class = reducing_class(eqs, &cons[at]);
+    if class == 0 {
+        return Due::Left(at);
+    }
+    Due::Reduce {
+        at,
+        f: first_of_class(eqs, class),
+        var: class - 1,
+    }
+}

@@ -1,0 +1,65 @@
+// A line inside a piece.
+ghost use Rattle.std.specs.Prelude.{◌≡◌, ℕ, IfOk, Bool, Option};
+ghost use Rattle.proof_steps.specs.declared.piece.Node.{Node};
+ghost use Rattle.log_checker.specs.Fitting.{At, listed, where_fits, in_piece};
+ghost use Rattle.log_checker.specs.Views.{inside_view, inside_views};
+ghost use Rattle.log_checker.specs.declared.piece.Inside.TheVariants as inside;
+
+use crate::open::open_row;
+use crate::piece::Inside;
+use crate::rows::{clash_row, close_row, drop_row, red_row, split_row, system_row, tail_row};
+use poly_model::OwnedPoly;
+use proof_log::LogLine;
+use proof_steps::Node;
+use std::alloc::{AllocError, Global};
+use term_store::TermStore;
+
+/// At a node, if there is one.
+fn at(node: Option<Node>) -> Option<Inside>
+    ensures { (fits : Bool) (n : Node) → node ≡ where_fits fits n
+        → inside_views result ≡ where_fits fits (listed (At n)) }
+{
+    match node {
+        None => None,
+        Some(node) => Some(Inside::At(node)),
+    }
+}
+
+/// Where a piece stands behind a line at a node, if it fits.
+#[tactic(auto, unfolding(crate::specs::Fitting::in_piece))]
+fn at_node<S: TermStore>(
+    alloc: Global,
+    s: &mut S,
+    cons: &[OwnedPoly],
+    node: Node,
+    line: LogLine,
+) -> Result<Option<Inside>, AllocError>
+    ensures { IfOk result (λ o. (version : ℕ) → inside_views o
+        ≡ in_piece version cons.now (inside_view (inside.At node)) line) }
+{
+    match line {
+        LogLine::Drop(i) => Ok(at(drop_row(node, i))),
+        LogLine::Red { g, f, m, r } => Ok(at(red_row(alloc, s, node, g, f, m, r)?)),
+        LogLine::Tail { f, r } => Ok(at(tail_row(alloc, s, node, f, r)?)),
+        LogLine::Split { f, initial } => split_row(alloc, s, node, f, initial),
+        LogLine::Close(i) => Ok(close_row(node, i)),
+        LogLine::Clash(i, j) => Ok(clash_row(node, i, j)),
+        LogLine::System => system_row(alloc, s, cons, node),
+        LogLine::Open { reason, what } => open_row(alloc, s, node, reason, what),
+        LogLine::Chain(_) => Ok(None),
+        LogLine::Proved => Ok(None),
+        LogLine::Remainder(_) => Ok(None),
+        LogLine::Unreduced { .. } => Ok(None),
+        LogLine::Eq(_) => Ok(None),
+        LogLine::Ne(_) => Ok(None),
+        LogLine::Head(_) => Ok(None),
+        LogLine::Proves(_) => Ok(None),
+        LogLine::Prove(_) => Ok(None),
+        LogLine::Vars(_) => Ok(None),
+        LogLine::Hyp(_) => Ok(None),
+        LogLine::Con(_) => Ok(None),
+        LogLine::Node(_) => Ok(None),
+        LogLine::Verdict(_) => Ok(None),
+        LogLine::End => Ok(None),
+    }
+}
