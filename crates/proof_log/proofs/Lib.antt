@@ -18,3 +18,5 @@ mod Steps
 mod Completed
 mod Runs
 mod Logs
+mod Held
+mod Pieced

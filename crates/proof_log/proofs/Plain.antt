@@ -11,3 +11,7 @@ some_left xs e h = let g : true ≡ false = sym (ap (λ l. length l == 0) h) ∙
 
 pub same_err : {T E : Type 0} (a b : E) → ◌≡◌ {A = Result T E} (Err a) (Err b) → a ≡ b
 same_err a b e = cc
+
+pub none_of : {X : Type 0} (xs : List X) → length xs ≡ 0 → xs ≡ []
+none_of [] e = refl
+none_of (x ∷ xs) e = absurd (omega (arith, e))

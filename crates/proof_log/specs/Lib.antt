@@ -4,7 +4,8 @@ pub mod Lengths
 pub mod Accepted
 pub mod Cuts
 pub mod Kinds
-pub mod Writing
-pub mod Own
 pub mod Grammar
 pub mod Places
+pub mod Feeding
+pub mod Writing
+pub mod Own

@@ -7,13 +7,13 @@ ghost use Rattle.poly_model.specs.declared.limits.Reason.{Reason};
 ghost use Rattle.proof_log.specs.Kinds.{IsAt, AreAt};
 ghost use Rattle.proof_log.specs.Text.{Field, Multiplier, letter_text, reason_text, minus_where, field_text, FitsField, fields_text};
 
+use crate::cut::cut;
+use crate::fault::LineFault;
 use crate::limits::{MOST_INDEX, MOST_PROOFS, VERSION};
 use poly_model::{MOST_CONCLUSIONS, MOST_LETTERS, MOST_SIZE, Reason};
 use poly_text::read_number;
-use crate::cut::cut;
-use crate::fault::LineFault;
-use std::alloc::Global;
 use proof_steps::Path;
+use std::alloc::Global;
 
 /// A small field of a line: a version, how many proofs or which, a conclusion, an equation or a condition, a multiplier,
 /// a path, a reason.

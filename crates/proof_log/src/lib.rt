@@ -1,4 +1,5 @@
-//! Logs of proofs: a log as a whole value, its lines, and the text of its lines.
+//! Logs of proofs: a log as a whole value, its lines, the text of its lines both ways, and a reader of logs that come in
+//! pieces.
 #![tactic(auto)]
 
 mod attempt;
@@ -12,6 +13,7 @@ mod line_reading;
 mod line_writing;
 mod log;
 mod place;
+mod reader;
 mod tail;
 mod told;
 mod words;
@@ -24,4 +26,8 @@ pub use line::{LineWord, LogLine};
 pub use line_reading::read_line;
 pub use line_writing::write_verdict;
 pub use log::{Log, Proof};
+pub use reader::{LogFault, LogReader, pieces_do_not_matter};
 pub use writing::write_log;
+
+#[cfg(test)]
+mod tests;

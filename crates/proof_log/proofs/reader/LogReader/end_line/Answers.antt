@@ -1,0 +1,40 @@
+use Rattle.std.proofs.Common.{◌≡◌, ◌+◌, length, sym, ◌∙◌, ap, refl, subst, arith, ◌∷◌, [], ◌++◌, length-append, Err}
+use Rattle.proof_log.specs.Grammar.{IsUnended}
+use Rattle.proof_log.specs.Text.{names_after, text_of, IsLine}
+use Rattle.proof_log.proofs.Held.{next_text, refuses_line, names_snoc, lines_snoc}
+use Rattle.proof_log.proofs.Logs.{run_snoc}
+use Rattle.proof_log.proofs.Pieced.{starved}
+use Rattle.proof_log.proofs.reader.LogReader.end_line.Goals as goal
+
+pub returns-in_default-clause-line : goal.returns-in_default-clause-line
+returns-in_default-clause-line c bytes front fed = (c.in_default.ensures.items, refl, starved front c.args.self.now bytes (10 ∷ []) fed)
+
+pub returns-in-Ok-push-clause-line : goal.returns-in-Ok-push-clause-line
+returns-in-Ok-push-clause-line c bytes front fed =
+    let l = c.in-Ok.line in
+    let r = c.in-Ok.ensures.reads in (
+      l,
+      c.in-Ok-push.ensures.items,
+      record {
+        text = next_text front bytes c.args.self.now.held.items c.args.self.now.vars l fed.text fed.names r.1 ∙ ap (λ t. text_of [] (front ++ l ∷ []) ++ t) (sym c.clear.ensures.items);
+        unended = subst IsUnended (sym c.clear.ensures.items) tt;
+        lines = lines_snoc [] front l fed.lines (subst (λ v. IsLine v l) fed.names r.0);
+        place = run_snoc c.args.self.now.place c.in-Ok.place front l fed.place r.2;
+        names = c.names_after-vars.ensures ∙ ap (λ v. names_after v l) fed.names ∙ sym (names_snoc [] front l);
+        count = let n = length-append front (l ∷ []) in let m = fed.count in omega (arith, n, m);
+        well = fed.well;
+      },
+    )
+
+pub returns-in-Err-Malformed-clause-line : goal.returns-in-Err-Malformed-clause-line
+returns-in-Err-Malformed-clause-line c bytes front fed = (
+  refl,
+  refl,
+  record {
+    refuses = refuses_line front bytes c.args.self.now.held.items c.args.self.now.vars c.args.self.now.place fed.text fed.names fed.unended fed.lines fed.place (c.in-Err-Malformed.ensures.refuses (ap Err c.in-Err-Malformed.field-0-is));
+    number = ap (λ n. n + 1) fed.count;
+  },
+)
+
+pub returns-in-Err-OutOfMemory-clause-line : goal.returns-in-Err-OutOfMemory-clause-line
+returns-in-Err-OutOfMemory-clause-line c bytes front fed = (refl, refl, starved front c.args.self.now bytes (10 ∷ []) fed)

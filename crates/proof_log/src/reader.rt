@@ -1,0 +1,200 @@
+ghost use Rattle.std.specs.Prelude.{◌≡◌, ◌<◌, ◌≤◌, ◌+◌, ◌^◌, ◌++◌, ◌∷◌, [], ℕ, List, Option, Some, None, Result, Err, IfOk, IfErr, OnOk, IsErrOf, length};
+ghost use Rattle.proof_log.specs.Text.{line_text, IsLine, names_after};
+ghost use Rattle.proof_log.specs.Places.{goes};
+ghost use Rattle.proof_log.specs.Grammar.{IsUnended};
+ghost use Rattle.proof_log.specs.declared.fault.LineFault.{LineFault};
+ghost use Rattle.proof_log.specs.declared.line.LogLine.{LogLine};
+ghost use Rattle.proof_log.specs.declared.reader.LogFault.{LogFault};
+ghost use Rattle.proof_log.specs.declared.reader.LogReader.{LogReader};
+ghost use Rattle.proof_log.specs.Feeding.{Fed};
+
+use crate::cut::cut;
+use crate::fault::LineFault;
+use crate::line::LogLine;
+use crate::line_reading::read_line;
+use crate::place::{Place, goes, is_done, start};
+use poly_model::{MOST_VARIABLES, Vars};
+use std::alloc::{AllocError, Global};
+use thiserror::Error;
+
+/// Why a log is not read on.
+#[derive(Clone, Copy, Debug, PartialEq, Eq, Error)]
+pub enum LogFault {
+    /// The line of this number, counted from 1, is the first that the grammar refuses, or that is missing.
+    #[error("line {0} is malformed")]
+    Malformed(u32),
+    #[error("out of memory")]
+    OutOfMemory,
+}
+
+/// Reads a log that comes in pieces, cut anywhere, and hands out its lines as they end.
+#[derive(Drop)]
+pub struct LogReader {
+    alloc: Global,
+    /// The bytes of the line that has not ended.
+    held: Vec<u8>,
+    vars: Vars,
+    place: Place,
+    /// How many lines were handed out.
+    lines: u32,
+    /// How many bytes were fed.
+    fed: u32,
+    fault: Option<LogFault>,
+    ghost within: { lines ≤ fed },
+    ghost few: { fed ≤ 2 ^ 30 },
+}
+
+/// The variables behind a line.
+fn names_after(vars: Vars, line: &LogLine) -> Vars
+    ensures { result ≡ names_after vars line.now }
+{
+    match line {
+        LogLine::Vars(names) => *names,
+        _ => vars,
+    }
+}
+
+impl LogReader {
+    ghost use Rattle.proof_log.specs.Feeding.{IsFed, Ended, FedTo, Finished};
+
+    /// A reader at the start of a log.
+    pub fn new(alloc: Global) -> Result<LogReader, AllocError>
+        ensures fed { IfOk result (λ r. IsFed [] r [] × (r.fed ≡ 0)) }
+        ensures well { IfOk result (λ r. r.fault ≡ None) }
+    {
+        Ok(LogReader {
+            alloc,
+            held: Vec::new(alloc),
+            vars: Vars::from_names(&[]).unwrap(),
+            place: start(),
+            lines: 0,
+            fed: 0,
+            fault: None,
+        })
+    }
+
+    /// The line that the held bytes are, and the place behind it.
+    fn held_line(&self) -> Result<(LogLine, Place), LineFault>
+        ensures reads { IfOk result (λ x. IsLine self.now.vars x.0
+            × (self.now.held.items ≡ line_text self.now.vars x.0)
+            × (goes self.now.place x.0 ≡ Some x.1)) }
+        ensures refuses { IsErrOf result LineFault.Malformed → (l : LogLine)
+            → IsLine self.now.vars l → self.now.held.items ≡ line_text self.now.vars l
+            → goes self.now.place l ≡ None }
+    {
+        prove!(self.vars.len() <= MOST_VARIABLES);
+        match read_line(self.alloc, &self.held, &self.vars) {
+            Ok(line) => match goes(self.place, &line) {
+                Some(place) => Ok((line, place)),
+                None => Err(LineFault::Malformed),
+            },
+            Err(fault) => Err(fault),
+        }
+    }
+
+    /// The held bytes are a whole line.
+    fn end_line(&mut self, lines: &mut Vec<LogLine>) -> Result<(), LogFault>
+        requires { self.old.fed < 2 ^ 30 }
+        ensures fed { self.new.fed ≡ self.old.fed + 1 }
+        ensures line { (bytes : List ℕ) (front : List LogLine) → Fed front self.old bytes
+            → Ended result lines.old.items lines.new.items front self.new (bytes ++ 10 ∷ []) }
+    {
+        self.fed += 1;
+        match self.held_line() {
+            Ok((line, place)) => {
+                let vars = names_after(self.vars, &line);
+                let Ok(()) = lines.push(line) else {
+                    self.fault = Some(LogFault::OutOfMemory);
+                    return Err(LogFault::OutOfMemory);
+                };
+                self.vars = vars;
+                self.place = place;
+                self.lines += 1;
+                self.held.clear();
+                Ok(())
+            }
+            Err(LineFault::Malformed) => {
+                let fault = LogFault::Malformed(self.lines + 1);
+                self.fault = Some(fault);
+                Err(fault)
+            }
+            Err(LineFault::OutOfMemory) => {
+                self.fault = Some(LogFault::OutOfMemory);
+                Err(LogFault::OutOfMemory)
+            }
+        }
+    }
+
+    /// More bytes of the line that has not ended.
+    fn hold(&mut self, front: &[u8]) -> Result<(), LogFault>
+        requires few { self.old.fed + length front.now ≤ 2 ^ 30 }
+        requires unended { IsUnended front.now }
+        ensures fed { OnOk result (self.new.fed ≡ self.old.fed + length front.now) }
+        ensures ok { OnOk result ((bytes : List ℕ) (lines : List LogLine)
+            → Fed lines self.old bytes → Fed lines self.new (bytes ++ front.now)) }
+        ensures err { IfErr result (λ f. (f ≡ LogFault.OutOfMemory)
+            × (self.new.fault ≡ Some LogFault.OutOfMemory)) }
+    {
+        let Ok(()) = self.held.extend_from_slice(front) else {
+            self.fault = Some(LogFault::OutOfMemory);
+            return Err(LogFault::OutOfMemory);
+        };
+        self.fed += front.len() as u32;
+        Ok(())
+    }
+
+    /// Takes the next piece of the log, and adds the lines that are whole now. A refusal is answered again by each later
+    /// call.
+    pub fn feed(&mut self, piece: &[u8], lines: &mut Vec<LogLine>) -> Result<(), LogFault>
+        requires { self.old.fed + length piece.now ≤ 2 ^ 30 }
+        ensures stays { (f : LogFault) → self.old.fault ≡ Some f
+            → (result ≡ Err f) × (self.new.fault ≡ Some f) × (lines.new.items ≡ lines.old.items) }
+        ensures fed { OnOk result (self.new.fed ≡ self.old.fed + length piece.now) }
+        ensures lines { (bytes : List ℕ) (front : List LogLine) → IsFed front self.old bytes
+            → (added : List LogLine) × (lines.new.items ≡ lines.old.items ++ added)
+            × FedTo result (front ++ added) self.new (bytes ++ piece.now) }
+    {
+        if let Some(fault) = self.fault {
+            return Err(fault);
+        }
+        let mut rest = piece;
+        loop {
+            let (front, behind) = cut(b'\n', rest);
+            match self.hold(front) {
+                Ok(()) => {}
+                Err(fault) => return Err(fault),
+            }
+            let Some((_, after)) = behind.split_first() else {
+                return Ok(());
+            };
+            match self.end_line(lines) {
+                Ok(()) => {}
+                Err(fault) => return Err(fault),
+            }
+            rest = after;
+        }
+    }
+
+    /// The log has ended: it is whole, or the line that is missing or has no LF is at fault.
+    pub fn finish(self) -> Result<(), LogFault>
+        ensures { (bytes : List ℕ) (front : List LogLine) → IsFed front self bytes
+            → Finished result front bytes }
+    {
+        if let Some(fault) = self.fault {
+            return Err(fault);
+        }
+        if !self.held.is_empty() {
+            return Err(LogFault::Malformed(self.lines + 1));
+        }
+        if !is_done(self.place.part) {
+            return Err(LogFault::Malformed(self.lines + 1));
+        }
+        Ok(())
+    }
+}
+
+/// Two readers that were fed the same bytes, in whatever pieces, have handed out the same lines.
+pub fn pieces_do_not_matter()
+    ensures { (front other : List LogLine) (r q : LogReader) (bytes : List ℕ) → Fed front r bytes
+        → Fed other q bytes → front ≡ other }
+{}
