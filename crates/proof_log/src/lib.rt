@@ -5,6 +5,7 @@
 mod attempt;
 mod cut;
 mod fault;
+mod feeding;
 mod field;
 mod laws;
 mod limits;
@@ -20,13 +21,14 @@ mod words;
 mod writing;
 
 pub use fault::LineFault;
+pub use feeding::pieces_do_not_matter;
 pub use laws::{texts_are_short, texts_are_unique};
 pub use limits::{MOST_INDEX, MOST_PROOFS, VERSION};
 pub use line::{LineWord, LogLine};
 pub use line_reading::read_line;
 pub use line_writing::write_verdict;
 pub use log::{Log, Proof};
-pub use reader::{LogFault, LogReader, pieces_do_not_matter};
+pub use reader::{LogFault, LogReader};
 pub use writing::write_log;
 
 #[cfg(test)]

@@ -5,8 +5,6 @@ ghost use Rattle.proof_log.specs.Grammar.{IsUnended};
 ghost use Rattle.proof_log.specs.declared.fault.LineFault.{LineFault};
 ghost use Rattle.proof_log.specs.declared.line.LogLine.{LogLine};
 ghost use Rattle.proof_log.specs.declared.reader.LogFault.{LogFault};
-ghost use Rattle.proof_log.specs.declared.reader.LogReader.{LogReader};
-ghost use Rattle.proof_log.specs.Feeding.{Fed};
 
 use crate::cut::cut;
 use crate::fault::LineFault;
@@ -55,7 +53,7 @@ fn names_after(vars: Vars, line: &LogLine) -> Vars
 }
 
 impl LogReader {
-    ghost use Rattle.proof_log.specs.Feeding.{IsFed, Ended, FedTo, Finished};
+    ghost use Rattle.proof_log.specs.Feeding.{Fed, IsFed, Ended, FedTo, Finished};
 
     /// A reader at the start of a log.
     pub fn new(alloc: Global) -> Result<LogReader, AllocError>
@@ -192,9 +190,3 @@ impl LogReader {
         Ok(())
     }
 }
-
-/// Two readers that were fed the same bytes, in whatever pieces, have handed out the same lines.
-pub fn pieces_do_not_matter()
-    ensures { (front other : List LogLine) (r q : LogReader) (bytes : List ℕ) → Fed front r bytes
-        → Fed other q bytes → front ≡ other }
-{}
