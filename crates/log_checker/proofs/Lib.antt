@@ -1,3 +1,8 @@
+mod Stores
+mod Terms
+mod Nodes
+mod Trying
+mod Fitness
 pub mod Inside
 pub mod Tally
 pub mod Fits

@@ -1,6 +1,16 @@
 //! Which logs are accepted, line by line and as a whole.
 #![tactic(auto)]
 
+mod arith;
+mod children;
+mod ending;
+mod piece;
 mod laws;
+mod node;
+mod open;
+mod reads;
+mod rows;
+mod rules;
+mod triangular;
 
 pub use laws::{fitting_is_accepted, pieces_end_in_what_follows, tallies_tell_verdicts};

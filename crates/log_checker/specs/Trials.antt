@@ -1,0 +1,34 @@
+-- What the trial of a rule at a node answers, and the calls that it is made of.
+use Rattle.std.specs.Prelude.{◌≡◌, ℕ, suc, ℤ, ◌&&◌, not, Bool, true, false, IsTrue, List, Option, Some, None, Result, Ok, Err}
+use Rattle.poly_model.specs.Polynomial.{Polynomial}
+use Rattle.poly_model.specs.Reasons.{reason_of}
+use Rattle.poly_model.specs.Reduction.{class_of, is_constant, reaches, reduction_of}
+use Rattle.poly_model.specs.declared.limits.Limit.{Limit}
+use Rattle.proof_steps.specs.Rules.{has_known_initial, reduction_limit}
+use Rattle.poly_model.specs.declared.limits.Reason.{Reason}
+use Rattle.log_checker.specs.declared.rules.Trial.{Trial}
+use Rattle.log_checker.specs.declared.rules.Trial.TheVariants as trial
+
+-- The rule is not valid; it is valid and a limit stops it; or it is valid, meets no limit and gives such a result.
+abbrev pub Tries : {A : Type 0} → (valid : Bool) → (limit : Option Reason) → (A → Type 0) → Trial A → Type 0
+Tries valid limit Result trial.Invalid = valid ≡ false
+Tries valid limit Result (trial.Stopped reason) = (valid ≡ true) × (limit ≡ Some reason)
+Tries valid limit Result (trial.Gives a) = (valid ≡ true) × (limit ≡ None) × Result a
+
+-- The reduction of g by f, or the limit that it meets.
+abbrev pub Reduced : Polynomial → Polynomial → Result (ℤ × Polynomial) Limit → Type 0
+Reduced g f (Ok r) = (reduction_limit g f ≡ None) × (r ≡ reduction_of g f)
+Reduced g f (Err limit) = reduction_limit g f ≡ Some (reason_of limit)
+
+-- The place of the greatest variable of f, where f may reduce g.
+abbrev pub may_reduce : List Polynomial → Polynomial → Polynomial → Bool
+may_reduce N g f = not (is_constant f) && (has_known_initial N f && reaches g f)
+
+abbrev pub Divides : List Polynomial → Polynomial → Polynomial → Option ℕ → Type 0
+Divides N g f None = may_reduce N g f ≡ false
+Divides N g f (Some place) = (may_reduce N g f ≡ true) × (class_of f ≡ suc place) × IsTrue (reaches g f)
+
+-- Why a rule is stopped, where it is valid.
+abbrev pub Stops : (valid : Bool) → (reason : Option Reason) → Option (Option Reason) → Type 0
+Stops valid reason None = valid ≡ false
+Stops valid reason (Some met) = (valid ≡ true) × (reason ≡ met)

@@ -1,0 +1,162 @@
+// The lines at a node: whether they fit, and what stands behind them.
+ghost use Rattle.std.specs.Prelude.{◌≡◌, ◌&&◌, ℕ, ℤ, List, IfOk, Option};
+ghost use Rattle.poly_model.specs.Polynomial.{Polynomial};
+ghost use Rattle.std.specs.Ordering.{int_eq};
+ghost use Rattle.poly_model.specs.Reduction.{same};
+ghost use Rattle.proof_steps.specs.Rules.{stepped};
+ghost use Rattle.proof_steps.specs.Trees.{step_fits};
+ghost use Rattle.proof_steps.specs.declared.step.Step.TheVariants as step;
+ghost use Rattle.log_checker.specs.Fitting.{where_fits, split_row, close_row, clash_row, system_row, open_row};
+ghost use Rattle.log_checker.specs.Views.{inside_view, inside_views};
+
+use crate::children::{children, copies};
+use crate::ending::Ending;
+use crate::piece::{Behind, Inside, Leaf};
+use crate::node::{fuel_beside, with_equation, with_fuel, without};
+use crate::reads::{is_number, numbered};
+use crate::rules::{Trial, may_drop, try_red, try_split, try_tail};
+use crate::triangular::is_triangular;
+use poly_model::{OwnedPoly, Row};
+use proof_steps::Node;
+use std::alloc::{AllocError, Global};
+use term_store::TermStore;
+
+/// The node behind a line `drop`, if it fits.
+pub fn drop_row(node: Node, i: u16) -> Option<Node>
+    ensures { (version : ℕ) → result ≡ where_fits (step_fits version node (step.Drop i)) (stepped node (step.Drop i)) }
+{
+    if may_drop(&node, i) {
+        with_fuel(without(node, i))
+    } else {
+        None
+    }
+}
+
+/// The multiplier and the polynomial of a line are those that were found.
+pub fn tells(m: i128, r: &OwnedPoly, found: &(i128, OwnedPoly)) -> bool
+    ensures { result ≡ (int_eq m found.now.0 && same r.now found.now.1) }
+{
+    m == found.0 && *r == found.1
+}
+
+/// The node behind a line `red`, if it fits.
+pub fn red_row<S: TermStore>(
+    alloc: Global,
+    s: &mut S,
+    node: Node,
+    g: u16,
+    f: u16,
+    m: i128,
+    r: OwnedPoly,
+) -> Result<Option<Node>, AllocError>
+    ensures { IfOk result (λ o. (version : ℕ) → o
+        ≡ where_fits (step_fits version node (step.Red g f m r)) (stepped node (step.Red g f m r))) }
+{
+    let Trial::Gives(found) = try_red(alloc, s, &node, g, f)? else {
+        return Ok(None);
+    };
+    if !tells(m, &r, &found) {
+        return Ok(None);
+    }
+    let (_, rest) = found;
+    Ok(with_fuel(with_equation(node, g, rest)))
+}
+
+/// The node behind a line `tail`, if it fits.
+pub fn tail_row<S: TermStore>(
+    alloc: Global,
+    s: &mut S,
+    node: Node,
+    f: u16,
+    r: OwnedPoly,
+) -> Result<Option<Node>, AllocError>
+    ensures { IfOk result (λ o. (version : ℕ) → o
+        ≡ where_fits (step_fits version node (step.Tail f r)) (stepped node (step.Tail f r))) }
+{
+    let Some(tail) = try_tail(alloc, s, &node, f)? else {
+        return Ok(None);
+    };
+    if r != tail {
+        return Ok(None);
+    }
+    Ok(with_fuel(with_equation(node, f, tail)))
+}
+
+/// Where the piece stands behind a line `split`, if it fits.
+pub fn split_row<S: TermStore>(
+    alloc: Global,
+    s: &mut S,
+    node: Node,
+    f: u16,
+    told: OwnedPoly,
+) -> Result<Option<Inside>, AllocError>
+    ensures { IfOk result (λ o. (version : ℕ) → inside_views o ≡ split_row version node f told) }
+{
+    let Trial::Gives(initial) = try_split(alloc, s, &node, f)? else {
+        return Ok(None);
+    };
+    if told != initial {
+        return Ok(None);
+    }
+    match children(alloc, s, node, f, initial)? {
+        Some((plus, minus)) => Ok(Some(Inside::Parted {
+            plus,
+            minus,
+            gain: told,
+        })),
+        None => Ok(None),
+    }
+}
+
+/// Where the piece stands behind a line `close`, if it fits.
+pub fn close_row(node: Node, i: u16) -> Option<Inside>
+    ensures { inside_views result ≡ close_row node i }
+{
+    let p = numbered(node.eqs.as_slice(), i)?;
+    if is_number(p) {
+        Some(Inside::Ended(Ending::Empty))
+    } else {
+        None
+    }
+}
+
+/// Where the piece stands behind a line `clash`, if it fits.
+pub fn clash_row(node: Node, i: u16, j: u16) -> Option<Inside>
+    ensures { inside_views result ≡ clash_row node i j }
+{
+    let p = numbered(node.eqs.as_slice(), i)?;
+    let q = numbered(node.nes.as_slice(), j)?;
+    if p == q {
+        Some(Inside::Ended(Ending::Empty))
+    } else {
+        None
+    }
+}
+
+/// Where the piece stands behind a line `system`, if it fits.
+pub fn system_row<S: TermStore>(
+    alloc: Global,
+    s: &mut S,
+    cons: &[OwnedPoly],
+    node: Node,
+) -> Result<Option<Inside>, AllocError>
+    ensures { IfOk result (λ o. inside_views o ≡ system_row cons.now node) }
+{
+    let Node { eqs, nes, fuel, .. } = node;
+    if !is_triangular(alloc, s, eqs.as_slice(), nes.as_slice())? {
+        return Ok(None);
+    }
+    let left = fuel_beside(eqs.as_slice(), nes.as_slice(), fuel).unwrap_or(0);
+    let cons = Row::from_vec(copies(alloc, cons)?);
+    Ok(Some(Inside::Listing(Leaf {
+        eqs,
+        nes,
+        eqs_listed: 0,
+        nes_listed: 0,
+        behind: Behind::Chain {
+            cons,
+            done: 0,
+            fuel: left,
+        },
+    })))
+}

@@ -1,0 +1,143 @@
+// Which rules are valid at a node, and what they give there.
+ghost use Rattle.std.specs.Prelude.{◌≡◌, ◌<◌, ◌-◌, length, ◌&&◌, ◌||◌, not, suc, take, ℕ, Option, Some, None, Result, Ok, Err, IfOk, MatchOption, IsTrue, true, false};
+ghost use Rattle.poly_model.specs.Reduction.{class_of, reaches, is_constant, is_zero, has_polynomial, primitive_initial, primitive_tail, reduction_of};
+ghost use Rattle.poly_model.specs.declared.limits.TheConstants.{MOST_LETTERS};
+ghost use Rattle.proof_steps.specs.Numbers.{item, has};
+ghost use Rattle.proof_steps.specs.Rules.{has_known_initial, is_valid, limit_of};
+ghost use Rattle.proof_steps.specs.declared.step.Attempt.TheVariants.{Drop, Red, Tail, Split};
+ghost use Rattle.log_checker.specs.Trials.{Tries, Divides};
+
+use crate::arith::{initial_part, reduction, tail_part};
+use crate::node::{is_known, reaches};
+use crate::reads::{class_number, is_member, is_zero, numbered};
+use poly_model::{MOST_LETTERS, OwnedPoly, Reason};
+use proof_steps::Node;
+use std::alloc::{AllocError, Global};
+use term_store::TermStore;
+
+/// What a rule comes to: it is not valid, a limit stops it, or it gives a result.
+#[derive(Debug, Drop)]
+pub enum Trial<T> {
+    Invalid,
+    Stopped(Reason),
+    Gives(T),
+}
+
+/// The i-th equation is 0, or one of those before it.
+pub fn may_drop(node: &Node, i: u16) -> bool
+    ensures { (version : ℕ) → result ≡ is_valid version node.now (Drop i) }
+{
+    let eqs = node.eqs.as_slice();
+    let Some(p) = numbered(eqs, i) else {
+        return false;
+    };
+    is_zero(p) || is_member(&eqs[..i as usize - 1], p)
+}
+
+/// The place of the greatest variable of f, where its initial is known and g reaches its degree.
+fn divisor<S: TermStore>(
+    alloc: Global,
+    s: &mut S,
+    nes: &[OwnedPoly],
+    g: &OwnedPoly,
+    f: &OwnedPoly,
+) -> Result<Option<u8>, AllocError>
+    ensures { IfOk result (λ place. Divides nes.now g.now f.now place) }
+{
+    let class = class_number(f);
+    if class == 0 {
+        return Ok(None);
+    }
+    let var = class - 1;
+    if !reaches(g, f, var) {
+        return Ok(None);
+    }
+    if is_known(alloc, s, nes, f)? {
+        Ok(Some(var))
+    } else {
+        Ok(None)
+    }
+}
+
+/// The reduction of the g-th equation by the f-th.
+pub fn try_red<S: TermStore>(
+    alloc: Global,
+    s: &mut S,
+    node: &Node,
+    g: u16,
+    f: u16,
+) -> Result<Trial<(i128, OwnedPoly)>, AllocError>
+    ensures { IfOk result (λ t. (version : ℕ) → Tries (is_valid version node.now (Red g f))
+        (limit_of version node.now (Red g f))
+        (λ r. r ≡ reduction_of (item node.now.eqs g) (item node.now.eqs f)) t) }
+{
+    let eqs = node.eqs.as_slice();
+    let Some(p) = numbered(eqs, g) else {
+        return Ok(Trial::Invalid);
+    };
+    let Some(q) = numbered(eqs, f) else {
+        return Ok(Trial::Invalid);
+    };
+    if g == f {
+        return Ok(Trial::Invalid);
+    }
+    let Some(var) = divisor(alloc, s, node.nes.as_slice(), p, q)? else {
+        return Ok(Trial::Invalid);
+    };
+    match reduction(alloc, s, p, q, var)? {
+        Ok(result) => Ok(Trial::Gives(result)),
+        Err(limit) => Ok(Trial::Stopped(limit.reason())),
+    }
+}
+
+/// The f-th equation, where it is not a constant.
+fn nonconstant(node: &Node, f: u16) -> Option<&OwnedPoly>
+    ensures { MatchOption result ((has node.now.eqs f && not (is_constant (item node.now.eqs f))) ≡ false)
+        (λ p. ((has node.now.eqs f && not (is_constant (item node.now.eqs f))) ≡ true)
+        × (is_constant p.now ≡ false) × (p.now ≡ item node.now.eqs f)) }
+{
+    let p = numbered(node.eqs.as_slice(), f)?;
+    if class_number(p) == 0 { None } else { Some(p) }
+}
+
+/// The primitive part of the tail of the f-th equation, where its initial is an equation.
+pub fn try_tail<S: TermStore>(
+    alloc: Global,
+    s: &mut S,
+    node: &Node,
+    f: u16,
+) -> Result<Option<OwnedPoly>, AllocError>
+    ensures { IfOk result (λ o. (version : ℕ) → MatchOption o (is_valid version node.now (Tail f) ≡ false)
+        (λ r. (is_valid version node.now (Tail f) ≡ true) × (r ≡ primitive_tail (item node.now.eqs f)))) }
+{
+    let Some(p) = nonconstant(node, f) else {
+        return Ok(None);
+    };
+    let initial = initial_part(alloc, s, p)?;
+    if !is_member(node.eqs.as_slice(), &initial) {
+        return Ok(None);
+    }
+    let tail = tail_part(alloc, s, p)?;
+    Ok(Some(tail))
+}
+
+/// The primitive part of the initial of the f-th equation, which the node is split on.
+pub fn try_split<S: TermStore>(
+    alloc: Global,
+    s: &mut S,
+    node: &Node,
+    f: u16,
+) -> Result<Trial<OwnedPoly>, AllocError>
+    ensures { IfOk result (λ t. (version : ℕ) → Tries (is_valid version node.now (Split f))
+        (limit_of version node.now (Split f))
+        (λ r. (r ≡ primitive_initial (item node.now.eqs f)) × (length node.now.path < MOST_LETTERS)) t) }
+{
+    let Some(p) = nonconstant(node, f) else {
+        return Ok(Trial::Invalid);
+    };
+    if node.path.len() == MOST_LETTERS {
+        return Ok(Trial::Stopped(Reason::Depth));
+    }
+    let initial = initial_part(alloc, s, p)?;
+    Ok(Trial::Gives(initial))
+}
