@@ -6,3 +6,5 @@ mod Fitness
 pub mod Inside
 pub mod Tally
 pub mod Fits
+mod Running
+mod Exact

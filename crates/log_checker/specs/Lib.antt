@@ -4,3 +4,4 @@ pub mod Stores
 pub mod Amounts
 pub mod Trials
 pub mod Views
+pub mod Answers

@@ -1,3 +1,4 @@
+ghost use Rattle.log_checker.specs.Answers.{OneJudgement};
 ghost use Rattle.log_checker.specs.Accepted.{AcceptedGoesOn, FittingIsAccepted, PiecesAreWritten, PiecesEnd, TalliesTell};
 
 /// The lines of a piece behind its first fit at a node, and end in some nodes, exactly where the piece fits the node and
@@ -16,4 +17,10 @@ pub fn tallies_tell_verdicts()
 pub fn fitting_is_accepted()
     ensures fits { FittingIsAccepted }
     ensures goes { AcceptedGoesOn }
+{}
+
+/// The bytes of a log have one judgement: they are the text of one accepted log, or one line is the first at fault, as
+/// malformed or as one that does not fit.
+pub fn bytes_have_one_judgement()
+    ensures { OneJudgement }
 {}

@@ -13,4 +13,4 @@ mod rows;
 mod rules;
 mod triangular;
 
-pub use laws::{fitting_is_accepted, pieces_end_in_what_follows, tallies_tell_verdicts};
+pub use laws::{bytes_have_one_judgement, fitting_is_accepted, pieces_end_in_what_follows, tallies_tell_verdicts};

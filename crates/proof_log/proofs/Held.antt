@@ -66,7 +66,7 @@ refuses_more front bytes more r = record {
 }
 
 -- ---- two readings of one text
-no_cut : (a b x : List ℕ) → IsUnended a → IsUnended b → a ++ 10 ∷ x ≢ b
+pub no_cut : (a b x : List ℕ) → IsUnended a → IsUnended b → a ++ 10 ∷ x ≢ b
 no_cut [] [] x u v e = cc
 no_cut [] (c ∷ b) x u v e = v.0 (let h : 10 ≡ c = cc in sym h)
 no_cut (c ∷ a) [] x u v e = cc

@@ -17,6 +17,6 @@ mod Fronts
 mod Steps
 mod Completed
 mod Runs
-mod Logs
-mod Held
+pub mod Logs
+pub mod Held
 mod Pieced
