@@ -5,3 +5,7 @@ pub mod Amounts
 pub mod Trials
 pub mod Views
 pub mod Answers
+pub mod Gathering
+pub mod Checkers
+pub mod Checked
+pub mod Pieces

@@ -3,7 +3,11 @@
 
 mod arith;
 mod children;
+mod checker;
+mod checking;
 mod ending;
+mod fault;
+mod gathering;
 mod piece;
 mod laws;
 mod node;
@@ -13,4 +17,6 @@ mod rows;
 mod rules;
 mod triangular;
 
+pub use checking::Checked;
+pub use fault::CheckFault;
 pub use laws::{bytes_have_one_judgement, fitting_is_accepted, pieces_end_in_what_follows, tallies_tell_verdicts};
