@@ -8,3 +8,5 @@ pub mod Tally
 pub mod Fits
 mod Running
 mod Exact
+mod Passes
+mod Tellings

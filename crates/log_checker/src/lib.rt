@@ -3,6 +3,7 @@
 
 mod arith;
 mod children;
+mod check;
 mod checker;
 mod checking;
 mod ending;
@@ -17,6 +18,7 @@ mod rows;
 mod rules;
 mod triangular;
 
+pub use check::check_log;
 pub use checking::Checked;
 pub use fault::CheckFault;
 pub use laws::{bytes_have_one_judgement, fitting_is_accepted, pieces_end_in_what_follows, tallies_tell_verdicts};
