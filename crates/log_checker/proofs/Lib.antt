@@ -10,3 +10,4 @@ mod Running
 mod Exact
 mod Passes
 mod Tellings
+mod Assured

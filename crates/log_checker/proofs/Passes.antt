@@ -88,7 +88,7 @@ all_checked p ls [] q n f e = let same : ls ≡ f.front = f.parts ∙ append-nil
 all_checked p ls (l ∷ left) q n f e = absurd (omega (arith, e))
 
 -- ---- fronts of what a log begins with
-lines_front : (names : List VarName) (a b : List LogLine) → AreLines names (a ++ b) → AreLines names a
+pub lines_front : (names : List VarName) (a b : List LogLine) → AreLines names (a ++ b) → AreLines names a
 unfolding AreLines
 lines_front names [] b h = tt
 lines_front names (l ∷ a) b h = (h.0, lines_front (names_after names l) a b h.1)

@@ -5,7 +5,7 @@ ghost use Rattle.log_checker.specs.Checked.{FileJudged, AreAssured, IsCovered};
 
 use crate::checking::{Checked, check_bytes};
 use crate::fault::CheckFault;
-use assurance::{trees_cover, verdicts_hold};
+use assurance::{trees_cover, trees_keep_to_their_variables, verdicts_hold};
 use desk_io::{Desk, DeskFault, read_whole};
 use poly_model::{Domain, MOST_LOG_BYTES};
 use std::alloc::Global;
@@ -34,6 +34,7 @@ pub fn check_log<D: Domain, K: Desk>(
 {
     trees_cover(domain);
     verdicts_hold(domain);
+    trees_keep_to_their_variables();
     match read_whole(alloc, desk, name, MOST_LOG_BYTES) {
         Ok(bytes) => check_bytes(alloc, &bytes),
         Err(DeskFault::ReadFault) => Err(CheckFault::ReadFault),
