@@ -9,3 +9,4 @@ pub mod Gathering
 pub mod Checkers
 pub mod Checked
 pub mod Pieces
+pub mod Against

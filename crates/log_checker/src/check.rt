@@ -1,6 +1,7 @@
-ghost use Rattle.std.specs.Prelude.{◌≡◌, ◌≤◌, ◌⊎◌, ℕ, List, length, IfOk, OnOk, IsErrOf, Result, Err};
+ghost use Rattle.std.specs.Prelude.{◌≡◌, ◌≤◌, ◌<◌, ◌⊎◌, ℕ, List, length, IfOk, OnOk, IsErrOf, Result, Err};
 ghost use Rattle.desk_io.specs.Causes.{Rose};
 ghost use Rattle.desk_io.specs.Files.{Holds, Lacks};
+ghost use Rattle.poly_model.specs.declared.limits.TheConstants.{MOST_LOG_BYTES};
 ghost use Rattle.log_checker.specs.Checked.{FileJudged, AreAssured, IsCovered};
 
 use crate::checking::{Checked, check_bytes};
@@ -27,6 +28,9 @@ pub fn check_log<D: Domain, K: Desk>(
     ensures many { IfOk result (λ checked. length checked.verdicts ≡ length checked.problems) }
     ensures absent { Lacks (K.held desk.old) name.now
         → IsErrOf result CheckFault.ReadFault ⊎ IsErrOf result CheckFault.OutOfMemory }
+    ensures oversize { (file : List ℕ) → Holds (K.held desk.old) name.now file
+        → MOST_LOG_BYTES < length file → IsErrOf result CheckFault.TooLarge
+        ⊎ IsErrOf result CheckFault.ReadFault ⊎ IsErrOf result CheckFault.OutOfMemory }
     ensures read_fault { IsErrOf result CheckFault.ReadFault
         → Rose (K.faults desk.old) (K.faults desk.new) ⊎ Lacks (K.held desk.old) name.now }
     ensures same { K.held desk.new ≡ K.held desk.old }

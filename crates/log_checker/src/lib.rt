@@ -3,6 +3,7 @@
 
 mod arith;
 mod children;
+mod against;
 mod check;
 mod checker;
 mod checking;
@@ -18,6 +19,7 @@ mod rows;
 mod rules;
 mod triangular;
 
+pub use against::check_against;
 pub use check::check_log;
 pub use checking::Checked;
 pub use fault::CheckFault;
