@@ -96,22 +96,3 @@ module _ {M : Type 0} (o : Operations M) where
   pub is_covered : TreesCover o → (x : Result Checked CheckFault) (bytes : List ℕ) → Judged x bytes → IfOk x (λ checked. IsCovered o checked bytes)
   is_covered cover (Ok checked) bytes j = record { log = j.0; text = j.1; tells = j.2; covered = all_covered cover j.1.version (MOST_FUEL / length j.0) j.0 j.1.accepted }
   is_covered cover (Err f) bytes j = tt
-
--- ---- answers
-pub as_many : (x : Result Checked CheckFault) (bytes : List ℕ) → Judged x bytes → IfOk x (λ checked. length checked.verdicts ≡ length checked.problems)
-as_many (Ok checked) bytes j = ap length j.2.verdicts ∙ same_length j.0 ∙ sym (ap length j.2.problems) where
-  same_length : (log : List Proof) → length (verdicts_of log) ≡ length (problems_of log)
-  same_length [] = refl
-  same_length (p ∷ ps) = ap suc (same_length ps)
-as_many (Err f) bytes j = tt
-
-pub of_file : (x : Result Checked CheckFault) (bytes : List ℕ) → Judged x bytes → FileJudged x bytes
-of_file (Ok checked) bytes j = j
-of_file (Err (fault.Malformed n)) bytes j = j
-of_file (Err (fault.Rejected n word)) bytes j = j
-of_file (Err fault.ReadFault) bytes j = tt
-of_file (Err fault.TooLarge) bytes j = absurd j
-of_file (Err fault.OutOfMemory) bytes j = tt
-
-pub no_read_fault : (x : Result Checked CheckFault) (bytes : List ℕ) → Judged x bytes → x ≡ Err fault.ReadFault → ⊥
-no_read_fault x bytes j e = subst (λ y. Judged y bytes) e j

@@ -69,24 +69,6 @@ one_checked p ls left rest q r n l f e g = record {
   counts = let a = f.counts in let b = length-append f.front (l ∷ []) in omega (arith, a, b);
 }
 
-pub one_misfit : (p : Progress) (ls left rest : List LogLine) (q : Progress) (n : ℕ) (l : LogLine) (w : LineWord) → Sofar p ls left q n → left ≡ rest ++ l ∷ [] → Goes q l None → w ≡ (row_of l).word
-    → Misfits (state_of p.checker) ls n w
-one_misfit p ls left rest q n l w f e g h = record {
-  front = f.front;
-  line = l;
-  rest = reverse rest;
-  state = state_of q.checker;
-  parts = f.parts ∙ ap (λ t. f.front ++ t) (last_first left rest l e);
-  fit = f.went.fit;
-  misfit = g;
-  place = f.counts;
-  names = h;
-}
-
-pub all_checked : (p : Progress) (ls left : List LogLine) (q : Progress) (n : ℕ) → Sofar p ls left q n → length left ≡ 0 → Went p ls q × (n ≡ length ls)
-all_checked p ls [] q n f e = let same : ls ≡ f.front = f.parts ∙ append-nil f.front in (subst (λ t. Went p t q) (sym same) f.went, f.counts ∙ ap length (sym same))
-all_checked p ls (l ∷ left) q n f e = absurd (omega (arith, e))
-
 -- ---- fronts of what a log begins with
 pub lines_front : (names : List VarName) (a b : List LogLine) → AreLines names (a ++ b) → AreLines names a
 unfolding AreLines
@@ -176,8 +158,7 @@ piece_whole front added r p q bytes piece seen n all small f h w many e =
     let total = length-append bytes piece in
     let both = length-append front added in
     let count = h.count in
-    let is = e (omega (arith, small, few, total, both, many, count)) in
-    (
+    let is = e (omega (arith, small, few, total, both, many, count)) in (
       added,
       f,
       record {

@@ -1,5 +1,5 @@
 -- Lists of a store that are made and given up again.
-use Rattle.std.proofs.Common.{◌≡◌, ℕ, ◌+◌, length, sym, ◌∙◌, ap, subst}
+use Rattle.std.proofs.Common.{ℕ, ◌+◌, length, sym, ◌∙◌, ap, subst}
 use Rattle.std.specs.Prelude.{ℤ, Result, Ok, Err}
 use Rattle.std.specs.FinMap.{remove}
 use Rattle.poly_model.specs.declared.limits.Limit.{Limit}

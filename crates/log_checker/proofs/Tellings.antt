@@ -70,9 +70,11 @@ outcome-silent : (p : Piece) (o : Outcome) → AreSilent (outcome_lines p o)
 outcome-silent p (outcome.Split f initial) = ((λ g. refl), tt)
 outcome-silent p (outcome.Close i) = ((λ g. refl), tt)
 outcome-silent p (outcome.Clash i j) = ((λ g. refl), tt)
-outcome-silent p (outcome.System chain s) =
-    ((λ g. refl), silent-append (list_lines p) (map line.Chain chain ++ status_line s ∷ []) (lists-silent p)
-    (silent-append (map line.Chain chain) (status_line s ∷ []) (silent-map line.Chain (λ c g. refl) chain) (status-silent s, tt)))
+outcome-silent p (outcome.System chain s) = (
+  (λ g. refl),
+  silent-append (list_lines p) (map line.Chain chain ++ status_line s ∷ []) (lists-silent p)
+      (silent-append (map line.Chain chain) (status_line s ∷ []) (silent-map line.Chain (λ c g. refl) chain) (status-silent s, tt)),
+)
 outcome-silent p (outcome.Open reason what) = ((λ g. refl), lists-silent p)
 
 pieces-silent : (ps : List Piece) → AreSilent (flat_map piece_lines ps)
@@ -140,8 +142,7 @@ pub ends_well : (front : List LogLine) (p : Progress) (bytes : List ℕ) (seen :
 ends_well front p bytes seen checked w h problems verdicts =
     let log = w.whole.log in
     let version = w.whole.version in
-    let told = h.told ∙ ap (gathered nothing) w.whole.whole ∙ log_told version log in
-    (
+    let told = h.told ∙ ap (gathered nothing) w.whole.whole ∙ log_told version log in (
       log,
       record {
         version = version;

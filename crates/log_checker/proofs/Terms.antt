@@ -1,6 +1,6 @@
 -- What the terms of a polynomial within the limits tell.
-use Rattle.std.proofs.Common.{◌≡◌, ℕ, ◌+◌, ◌≤◌, ◌<◌, List, [], ◌∷◌, length, get_or, refl, sym, ◌∙◌, ap, arith, true, false, ◌&&◌, not, suc}
-use Rattle.std.specs.Prelude.{◌==◌, pos, nat_eq}
+use Rattle.std.proofs.Common.{◌≡◌, ℕ, ◌≤◌, List, [], ◌∷◌, length, get_or, refl, sym, ◌∙◌, arith, true, false, ◌&&◌, not, suc}
+use Rattle.std.specs.Prelude.{◌==◌, pos}
 use Rattle.std.specs.Ordering.{int_eq}
 use Rattle.std.proofs.lemmas.Bool.{and_from, leb-true}
 use Rattle.std.proofs.lemmas.Bool.Decides.{nat_tests}

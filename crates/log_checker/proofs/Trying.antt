@@ -1,6 +1,6 @@
 -- What the trials of rules tell.
-use Rattle.std.proofs.Common.{◌≡◌, ◌≢◌, ℕ, List, refl, sym, ◌∙◌, ap, subst, Bool, true, false, ◌&&◌, not}
-use Rattle.std.specs.Prelude.{ℤ, ◌==◌, Option, Some, None, Result, Ok, Err, IfOk}
+use Rattle.std.proofs.Common.{◌≡◌, ℕ, refl, sym, ◌∙◌, ap, Bool, true, false, ◌&&◌, not}
+use Rattle.std.specs.Prelude.{ℤ, ◌==◌, Result, Ok, Err, IfOk}
 use Rattle.std.proofs.lemmas.Bool.{and_from, eqb-true}
 use Rattle.poly_model.specs.Polynomial.{Polynomial}
 use Rattle.poly_model.specs.Bounded.{bounded_reduction}
@@ -17,7 +17,6 @@ use Rattle.proof_steps.specs.Rules.{is_valid, limit_of, reduction_limit}
 use Rattle.proof_steps.specs.declared.piece.Node.{Node}
 use Rattle.proof_steps.specs.declared.step.Attempt.TheVariants as attempt
 use Rattle.log_checker.specs.Trials.{Reduced, may_reduce, Tries}
-use Rattle.log_checker.specs.declared.rules.Trial.{Trial}
 use Rattle.log_checker.specs.declared.rules.Trial.TheVariants as trial
 
 -- ---- tests

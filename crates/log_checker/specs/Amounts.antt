@@ -1,5 +1,5 @@
 -- What is left of an amount.
-use Rattle.std.specs.Prelude.{ℕ, ◌-◌, Bool, nat_le, if◌then◌else◌, Option, Some, None}
+use Rattle.std.specs.Prelude.{ℕ, ◌-◌, nat_le, if◌then◌else◌, Option, Some, None}
 
 -- Nothing where more is wanted.
 abbrev pub spent : ℕ → ℕ → Option ℕ

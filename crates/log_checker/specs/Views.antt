@@ -1,5 +1,5 @@
 -- What the checker's values stand for.
-use Rattle.std.specs.Prelude.{ℕ, suc, List, [], ◌∷◌, drop, Option, Some, None}
+use Rattle.std.specs.Prelude.{suc, List, [], ◌∷◌, drop, Option, Some, None}
 use Rattle.poly_model.specs.Polynomial.{Polynomial}
 use Rattle.verdicts.specs.Tallies as tallies
 use Rattle.log_checker.specs.Fitting as fitting

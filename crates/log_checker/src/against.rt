@@ -29,11 +29,7 @@ fn same_problems(a: &[Problem], b: &[Problem]) -> bool
 }
 
 /// Whether the log that was checked is one of the problems of a program: it has these and no others, in their order.
-pub fn check_against(
-    alloc: Global,
-    checked: &Checked,
-    program: &Program,
-) -> Result<bool, GclFault>
+pub fn check_against(alloc: Global, checked: &Checked, program: &Program) -> Result<bool, GclFault>
     requires { IsSound program.now }
     ensures { Compares checked.now.problems result (problems_of program.now.acts) }
 {

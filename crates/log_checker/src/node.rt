@@ -8,7 +8,9 @@ ghost use Rattle.proof_steps.specs.Rules.{sizes, size_of, is_short, after, dropp
 ghost use Rattle.log_checker.specs.Amounts.{spent};
 
 use crate::arith::initial_part;
-use crate::reads::{class_number, degree, is_member, is_number, is_zero, left_beside, numbered, term_count};
+use crate::reads::{
+    class_number, degree, is_member, is_number, is_zero, left_beside, numbered, term_count,
+};
 use poly_model::{OwnedPoly, Row};
 use proof_steps::{Node, Path};
 use std::alloc::{AllocError, Global};

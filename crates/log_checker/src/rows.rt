@@ -11,8 +11,8 @@ ghost use Rattle.log_checker.specs.Views.{inside_view, inside_views};
 
 use crate::children::{children, copies};
 use crate::ending::Ending;
-use crate::piece::{Behind, Inside, Leaf};
 use crate::node::{fuel_beside, with_equation, with_fuel, without};
+use crate::piece::{Behind, Inside, Leaf};
 use crate::reads::{is_number, numbered};
 use crate::rules::{Trial, may_drop, try_red, try_split, try_tail};
 use crate::triangular::is_triangular;

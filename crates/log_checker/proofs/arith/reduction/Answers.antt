@@ -1,8 +1,6 @@
-use Rattle.std.proofs.Common.{◌≡◌, sym, ◌∙◌, ap, subst, IsTrue, IfOk}
-use Rattle.poly_model.specs.Bounded.{bounded_reduction}
-use Rattle.poly_model.specs.Reduction.{class_of, reaches}
+use Rattle.std.proofs.Common.{◌∙◌}
+use Rattle.poly_model.specs.Reduction.{reaches}
 use Rattle.polynomials.proofs.Results as results
-use Rattle.polynomials.specs.Held.{polynomial_at}
 use Rattle.log_checker.proofs.Stores as stores
 use Rattle.log_checker.proofs.Trying as trying
 use Rattle.log_checker.proofs.arith.reduction.Goals as goal

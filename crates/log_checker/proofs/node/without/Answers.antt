@@ -1,4 +1,4 @@
-use Rattle.std.proofs.Common.{◌≡◌, ◌-◌, suc, ◌++◌, take, drop, ◌∙◌, ap}
+use Rattle.std.proofs.Common.{◌-◌, suc, ◌++◌, take, drop, ◌∙◌, ap}
 use Rattle.log_checker.proofs.Nodes as nodes
 use Rattle.log_checker.proofs.node.without.Goals as goal
 

@@ -1,4 +1,4 @@
-use Rattle.std.proofs.Common.{◌≡◌, ◌∙◌, ap, sym, refl, false, ◌||◌}
+use Rattle.std.proofs.Common.{◌∙◌, ap, sym, refl, false, ◌||◌}
 use Rattle.std.specs.Prelude.{None}
 use Rattle.std.proofs.lemmas.Bool.{and_parts}
 use Rattle.proof_steps.specs.Numbers.{has}

@@ -1,10 +1,9 @@
-use Rattle.std.proofs.Common.{◌≡◌, ℕ, ◌∙◌, ap, sym, subst, refl, true, false, ◌&&◌, Bool, []}
+use Rattle.std.proofs.Common.{◌≡◌, ◌∙◌, ap, sym, subst, refl, true, false, ◌&&◌, Bool, []}
 use Rattle.std.specs.Prelude.{Option, Some, None}
 use Rattle.poly_model.specs.declared.limits.Reason.{Reason}
 use Rattle.proof_steps.specs.Reasons.{same_reason}
 use Rattle.proof_steps.specs.Rules.{is_valid, reason_of}
 use Rattle.proof_steps.specs.declared.piece.Node.{Node}
-use Rattle.proof_steps.specs.declared.step.Attempt.{Attempt}
 use Rattle.verdicts.specs.Tallies as tallies
 use Rattle.log_checker.specs.Fitting as fitting
 use Rattle.log_checker.specs.Fitting.{where_fits}

@@ -1,5 +1,5 @@
 use Rattle.std.proofs.Common.{◌≡◌, ◌∙◌, ◌+◌, ◌≤◌, ap, sym, arith, suc}
-use Rattle.poly_model.specs.Reduction.{class_of, monomial_class}
+use Rattle.poly_model.specs.Reduction.{class_of}
 use Rattle.poly_model.specs.Standard.{is_standard}
 use Rattle.poly_model.specs.declared.limits.TheConstants.{MOST_VARIABLES}
 use Rattle.log_checker.proofs.Terms as reads

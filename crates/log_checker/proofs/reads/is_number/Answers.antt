@@ -1,6 +1,5 @@
-use Rattle.std.proofs.Common.{◌∙◌, ap, sym, not}
+use Rattle.std.proofs.Common.{◌∙◌, ap, sym}
 use Rattle.std.specs.Prelude.{◌==◌}
-use Rattle.std.proofs.lemmas.Bool.{not_from_false}
 use Rattle.poly_model.specs.Reduction.{class_of, is_nonzero_constant}
 use Rattle.poly_model.specs.Standard.{is_standard}
 use Rattle.log_checker.proofs.Terms as reads

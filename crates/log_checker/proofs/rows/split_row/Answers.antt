@@ -1,9 +1,8 @@
-use Rattle.std.proofs.Common.{◌≡◌, ◌<◌, ℕ, length, List, [], ◌∷◌, ◌∙◌, ap, sym, subst, refl, true, false, not, ◌&&◌}
+use Rattle.std.proofs.Common.{◌≡◌, ◌<◌, ℕ, length, [], ◌∷◌, ◌∙◌, ap, sym, subst, true, false}
 use Rattle.std.specs.Prelude.{Option, Some, None, MatchOption, if◌then◌else◌}
 use Rattle.std.specs.List.{list_any}
 use Rattle.std.proofs.lemmas.Bool.{and_parts}
 use Rattle.poly_model.specs.Polynomial.{Polynomial}
-use Rattle.poly_model.specs.Equality.{same-is}
 use Rattle.poly_model.specs.Reduction.{same, is_constant, primitive_initial}
 use Rattle.poly_model.specs.declared.limits.TheConstants.{MOST_LETTERS}
 use Rattle.proof_steps.specs.Numbers.{item, has}

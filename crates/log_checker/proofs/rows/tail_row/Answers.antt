@@ -1,8 +1,7 @@
-use Rattle.std.proofs.Common.{◌≡◌, ℕ, ◌+◌, length, ◌∙◌, ap, sym, subst, refl, true, false, ◌&&◌}
+use Rattle.std.proofs.Common.{◌≡◌, ℕ, ◌+◌, length, ◌∙◌, ap, sym, subst, refl, true, false}
 use Rattle.std.specs.Prelude.{Option, Some, None, MatchOption}
 use Rattle.std.proofs.lemmas.Bool.{and_parts}
 use Rattle.poly_model.specs.Polynomial.{Polynomial}
-use Rattle.poly_model.specs.Equality.{same-is, is-same}
 use Rattle.poly_model.specs.Reduction.{same, primitive_tail}
 use Rattle.proof_steps.specs.Numbers.{item, has, replaced}
 use Rattle.proof_steps.specs.Rules.{cut, is_valid, after, tells_result}

@@ -1,7 +1,6 @@
-use Rattle.std.proofs.Common.{◌≡◌, ◌∙◌, ap, subst, sym, true}
-use Rattle.poly_model.specs.Reasons.{reason_of}
+use Rattle.std.proofs.Common.{◌∙◌, ap, subst, sym}
 use Rattle.proof_steps.specs.Numbers.{item, has}
-use Rattle.log_checker.specs.Trials.{Reduced, Divides, may_reduce, Tries}
+use Rattle.log_checker.specs.Trials.{Reduced, Divides, may_reduce}
 use Rattle.log_checker.proofs.Trying as trying
 use Rattle.log_checker.proofs.rules.try_red.Goals as goal
 

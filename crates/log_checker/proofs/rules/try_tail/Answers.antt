@@ -1,4 +1,4 @@
-use Rattle.std.proofs.Common.{◌≡◌, ◌∙◌, ap, sym, not}
+use Rattle.std.proofs.Common.{◌∙◌, ap, sym, not}
 use Rattle.poly_model.specs.Reduction.{is_constant, has_polynomial, primitive_initial, primitive_tail}
 use Rattle.proof_steps.specs.Numbers.{item, has}
 use Rattle.log_checker.proofs.Trying as trying
