@@ -6,3 +6,4 @@ pub mod Generic
 pub mod Claim
 pub mod Passing
 pub mod Telling
+pub mod Tally

@@ -1,4 +1,4 @@
-ghost use Rattle.assurance.specs.Assured.{TreesCover, VerdictsHold, TreesKeepVariables};
+ghost use Rattle.assurance.specs.Assured.{TalliesTell, TreesCover, VerdictsHold, TreesKeepVariables};
 
 use poly_model::Domain;
 
@@ -17,4 +17,9 @@ pub fn verdicts_hold<D: Domain>(_domain: &D)
 /// Where only the first `n` variables occur in a problem, only they occur in its valid trees and their verdicts.
 pub fn trees_keep_to_their_variables()
     ensures { TreesKeepVariables }
+{}
+
+/// The tally of the pieces of a valid tree tells the verdict of the tree.
+pub fn tallies_tell_verdicts()
+    ensures { TalliesTell }
 {}

@@ -3,4 +3,6 @@
 
 mod laws;
 
-pub use laws::{trees_cover, trees_keep_to_their_variables, verdicts_hold};
+pub use laws::{
+    tallies_tell_verdicts, trees_cover, trees_keep_to_their_variables, verdicts_hold,
+};

@@ -43,7 +43,10 @@ takes s worker path (Some i) = cond s.stopped None (Some (state_is (remove s.wai
 -- a held path of fewer letters than the most is done with its piece, and both children wait
 abbrev pub splits : {P : Type 0} → State P → List Bool → P → Option ℕ → Option (State P)
 splits s path x None = None
-splits s path x (Some i) = cond (nat_lt (length path) MOST_LETTERS) (Some (state_is (s.waiting ++ (path ++ true ∷ []) ∷ (path ++ false ∷ []) ∷ []) (remove s.held i) (s.done ++ (path, x) ∷ []) s.stopped)) None
+splits s path x (Some i) =
+    cond (nat_lt (length path) MOST_LETTERS)
+    (Some (state_is (s.waiting ++ (path ++ true ∷ []) ∷ (path ++ false ∷ []) ∷ []) (remove s.held i) (s.done ++ (path, x) ∷ []) s.stopped))
+    None
 
 -- a held path is done with its piece
 abbrev pub leaves : {P : Type 0} → State P → List Bool → P → Option ℕ → Option (State P)

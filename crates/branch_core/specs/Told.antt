@@ -4,7 +4,7 @@ use Rattle.std.specs.List.{list_any, find}
 use Rattle.std.specs.Option.{option_map}
 use Rattle.proof_steps.specs.Paths.{same_path}
 use Rattle.branch_core.specs.declared.event.Event.{Event}
-use Rattle.branch_core.specs.declared.event.Event.TheVariants.{Split}
+use Rattle.branch_core.specs.declared.event.Event.TheVariants.{Split, Leaf, Refuse}
 use Rattle.branch_core.specs.declared.event.Hold.{Hold}
 use Rattle.branch_core.specs.declared.answers.Gone.{Gone}
 use Rattle.branch_core.specs.declared.answers.PathState.{PathState}
@@ -47,6 +47,16 @@ pub record IsGone {P : Type 0} (history : List (Event P)) (event : Event P) (pat
 abbrev pub IsUnsplit : {P : Type 0} → List (Event P) → List Bool × ℕ → P → Unsplit P → Type 0
 IsUnsplit history t piece (unsplit.Gone g x) = (x ≡ piece) × IsGone history (Split t.1 t.0 piece) t.0 g
 IsUnsplit history t piece (unsplit.OutOfMemory u x) = (x ≡ piece) × (u ≡ t) × IsSome (replay (history ++ Split t.1 t.0 piece ∷ []))
+
+-- the events by which a ticket is spent
+abbrev pub split_by : {P : Type 0} → List Bool × ℕ → P → Event P
+split_by t x = Split t.1 t.0 x
+
+abbrev pub leaf_by : {P : Type 0} → List Bool × ℕ → P → Event P
+leaf_by t x = Leaf t.1 t.0 x
+
+abbrev pub refuse_by : {P : Type 0} → List Bool × ℕ → Event P
+refuse_by t = Refuse t.1 t.0
 
 -- what is left to do: nothing where the machine is stopped, else what waits, else what is held
 abbrev pub idle_of : Bool → List (List Bool) → List Hold → Idle

@@ -2,7 +2,7 @@ ghost use Rattle.std.specs.Prelude.{◌≡◌, ◌<◌, ◌≤◌, ◌++◌, ◌
 ghost use Rattle.poly_model.specs.declared.limits.TheConstants.{MOST_LETTERS};
 ghost use Rattle.branch_core.specs.declared.event.Event.TheVariants as event;
 ghost use Rattle.branch_core.specs.Room.{RoomForTwo};
-ghost use Rattle.branch_core.specs.Told.{Tells, IsGone, IsUnsplit, IsIdle};
+ghost use Rattle.branch_core.specs.Told.{Tells, IsGone, IsUnsplit, IsIdle, split_by, leaf_by, refuse_by};
 
 use crate::answers::{Gone, Idle, Unsplit};
 use crate::event::{Event, Hold, Ticket};
@@ -71,7 +71,7 @@ impl<P> Book<P> {
     /// the two calls below are refused where this book does not have the ticket's path held by the ticket's worker.
     pub fn split(&mut self, ticket: Ticket, piece: P) -> Result<(), Unsplit<P>>
         requires { length ticket.0 < MOST_LETTERS }
-        ensures history { OnOk result (self.new ≡ self.old ++ event.Split ticket.1 ticket.0 piece ∷ []) }
+        ensures history { OnOk result (self.new ≡ self.old ++ split_by ticket piece ∷ []) }
         ensures refused { IfErr result (λ e. IsUnsplit self.old ticket piece e) }
         ensures unchanged { OnErr result (self.new ≡ self.old) }
     {
@@ -92,8 +92,8 @@ impl<P> Book<P> {
 
     /// Ends a path that has no children with its piece.
     pub fn leaf(&mut self, ticket: Ticket, piece: P) -> Result<(), (Gone, P)>
-        ensures history { OnOk result (self.new ≡ self.old ++ event.Leaf ticket.1 ticket.0 piece ∷ []) }
-        ensures refused { IfErr result (λ e. IsGone self.old (event.Leaf ticket.1 ticket.0 piece) ticket.0 e.0) }
+        ensures history { OnOk result (self.new ≡ self.old ++ leaf_by ticket piece ∷ []) }
+        ensures refused { IfErr result (λ e. IsGone self.old (leaf_by ticket piece) ticket.0 e.0) }
         ensures piece { IfErr result (λ e. e.1 ≡ piece) }
         ensures unchanged { OnErr result (self.new ≡ self.old) }
     {
@@ -108,8 +108,8 @@ impl<P> Book<P> {
 
     /// Gives a path back, which waits again, and stops the book: no path is taken any more.
     pub fn refuse(&mut self, ticket: Ticket) -> Result<(), Gone>
-        ensures history { OnOk result (self.new ≡ self.old ++ event.Refuse ticket.1 ticket.0 ∷ []) }
-        ensures refused { IfErr result (λ g. IsGone self.old (event.Refuse ticket.1 ticket.0) ticket.0 g) }
+        ensures history { OnOk result (self.new ≡ self.old ++ refuse_by ticket ∷ []) }
+        ensures refused { IfErr result (λ g. IsGone self.old (refuse_by ticket) ticket.0 g) }
         ensures unchanged { OnErr result (self.new ≡ self.old) }
     {
         let Ticket { path, worker } = ticket;

@@ -24,7 +24,10 @@ after_pop v x = view_is (took_at x v.own) v.doors v.place
 
 -- the end at the door to that place gains the item
 abbrev pub Steals : {I : Type 0} → View I → ℕ → I → View I → Type 0
-Steals {I} v from x w = (e : End I) × (slice_get v.doors (door_to v.place from) ≡ Some e) × (w ≡ view_is v.own (slice_set v.doors (door_to v.place from) (took_at x e)) v.place)
+Steals {I} v from x w =
+    (e : End I)
+    × (slice_get v.doors (door_to v.place from) ≡ Some e)
+    × (w ≡ view_is v.own (slice_set v.doors (door_to v.place from) (took_at x e)) v.place)
 
 abbrev pub StealsSome : {I : Type 0} → View I → I → View I → Type 0
 StealsSome {I} v x w = (from : ℕ) × Steals v from x w

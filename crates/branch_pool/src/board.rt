@@ -15,7 +15,7 @@ pub struct Board<P> {
 
 impl<P: Drop> Board<P> {
     /// A board over a book.
-    pub fn new(book: Book<P>) -> Board<P> {
+    pub(crate) fn new(book: Book<P>) -> Board<P> {
         Board {
             book: Mutex::new(book),
             moved: Condvar::new(),
@@ -23,20 +23,20 @@ impl<P: Drop> Board<P> {
     }
 
     /// None where the path does not wait or the book is stopped.
-    pub fn take<R: Wait>(&self, rt: &R, worker: u32, path: Path) -> Option<Ticket>
+    pub(crate) fn take<R: Wait>(&self, rt: &R, worker: u32, path: Path) -> Option<Ticket>
         ensures { IfSome result (λ t. t ≡ (path, worker)) }
     {
         self.book.lock(rt).take(worker, path).ok()
     }
 
     /// Ends a path that has no children.
-    pub fn leaf<R: Wait>(&self, rt: &R, ticket: Ticket, piece: P) {
+    pub(crate) fn leaf<R: Wait>(&self, rt: &R, ticket: Ticket, piece: P) {
         let _ = self.book.lock(rt).leaf(ticket, piece);
         self.moved.notify_all();
     }
 
     /// Ends a path whose children wait. False where memory ran out, and then the book is stopped.
-    pub fn split<R: Wait>(&self, rt: &R, ticket: Ticket, piece: P) -> bool
+    pub(crate) fn split<R: Wait>(&self, rt: &R, ticket: Ticket, piece: P) -> bool
         requires { length ticket.0 < MOST_LETTERS }
     {
         let ended = self.book.lock(rt).split(ticket, piece);
@@ -52,13 +52,13 @@ impl<P: Drop> Board<P> {
     }
 
     /// Gives a path back for want of memory, and stops the book.
-    pub fn refuse<R: Wait>(&self, rt: &R, ticket: Ticket) {
+    pub(crate) fn refuse<R: Wait>(&self, rt: &R, ticket: Ticket) {
         let _ = self.book.lock(rt).refuse(ticket);
         self.moved.notify_all();
     }
 
     /// Waits for work. True where there will be none.
-    pub fn rest<R: Wait>(&self, rt: &R) -> bool {
+    pub(crate) fn rest<R: Wait>(&self, rt: &R) -> bool {
         let book = self.book.lock(rt);
         match book.idle() {
             Idle::Stopped => true,

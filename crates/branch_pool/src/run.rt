@@ -12,7 +12,7 @@ use std::sync::Wait;
 use std::thread;
 use std::thread::Threads;
 
-const MOST_WORKERS: usize = 65_535;
+const LAST_SEAT: usize = u32::MAX as usize - 1;
 
 /// The pieces of the root's tree, in preorder. The workers have the numbers from 1 on.
 pub fn run_all<W: Work + Sync, G: Gate + Sync, R: Threads + Wait + Sync>(
@@ -48,7 +48,7 @@ pub fn run_all<W: Work + Sync, G: Gate + Sync, R: Threads + Wait + Sync>(
                 gate,
                 shared,
                 seat,
-                i.min(MOST_WORKERS) as u32 + 1,
+                i.min(LAST_SEAT) as u32 + 1,
             )
         },
     );

@@ -5,3 +5,4 @@ pub mod Decided
 pub mod Outcomes
 pub mod Runs
 pub mod Single
+pub mod VerdictLines

@@ -1,7 +1,8 @@
 -- How a run ends, by what is made of the file.
-use Rattle.std.proofs.Common.{◌≡◌, List, [], ℕ, Option, Result, Ok, Err, MatchResult, inl, inr, sym, ◌∙◌, ap, append-nil, subst}
+use Rattle.std.proofs.Common.{◌≡◌, List, [], ℕ, Option, Result, Ok, Err, MatchResult, inl, inr, refl, sym, ◌∙◌, ap, append-nil, subst}
 use Rattle.std.specs.Io.KnownBytes.{append_known}
 use Rattle.desk_io.specs.Bytes.{GrewByFront, Puts}
+use Rattle.desk_io.proofs.Growth.{append_known-none}
 use Rattle.gcl_reader.specs.declared.refusal.Refusal.{Refusal}
 use Rattle.gcl_reader.specs.declared.refusal.GclFault.{GclFault}
 use Rattle.gcl_reader.specs.declared.refusal.GclFault.TheVariants as fault
@@ -35,4 +36,13 @@ told_ends answer told (Err x) out_old out_new notes_old notes_new lines status s
   out = record { front = answer.out; rest = []; parts = sym (append-nil answer.out); written = out };
   notes = subst (λ l. GrewByFront notes_old notes_new l) (sym n) put;
   order = inl out;
+}))
+
+-- A front of the text was put, and nothing behind it.
+pub put_failed_ends : (answer : Answer) (out_old out_new notes : Option (List ℕ)) → GrewByFront out_old out_new answer.out → Ends answer out_old out_new notes notes WriteFault
+put_failed_ends answer out_old out_new notes front = inr (inl (record {
+  status_is = refl;
+  out = front;
+  notes = record { front = []; rest = answer.notes; parts = refl; written = append_known-none notes };
+  order = inr refl;
 }))

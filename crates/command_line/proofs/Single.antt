@@ -2,7 +2,7 @@
 use Rattle.std.proofs.Common.{◌≡◌, ℕ, List, [], ◌∷◌, length, Option, None, Some, Bool, true, false, nat_lt, sym, ◌∙◌}
 use Rattle.desk_io.specs.Files.{Files, file_of}
 use Rattle.command_line.specs.Answer.{Answer, too_large}
-use Rattle.command_line.specs.Table.{Form, TextOf, Source, OfFile, OfSources, IsAnswerOver, IsAnswer, sources_of}
+use Rattle.command_line.specs.Table.{Form, TextOf, ProveOf, Source, OfFile, OfSources, IsAnswerOver, IsAnswer, sources_of}
 
 -- There is at most one answer.
 abbrev AtMostOne : (Answer → Type 0) → Type 0
@@ -26,6 +26,7 @@ over_sources (s ∷ sources) Over one files a b p q =
 
 over_form : (form : Form) (files : List (List ℕ)) → AtMostOne (IsAnswerOver form files)
 over_form (TextOf command file) files a b p q = p ∙ sym q
+over_form (ProveOf file) files a b p q = p ∙ sym q
 
 pub one_answer : (form : Option Form) (files : Files) (a b : Answer) → IsAnswer form files a → IsAnswer form files b → a ≡ b
 one_answer None files a b p q = p ∙ sym q

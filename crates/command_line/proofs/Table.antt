@@ -1,9 +1,12 @@
 -- What the table of forms says of each status.
-use Rattle.std.proofs.Common.{◌≡◌, List, ℕ, Result, Ok, Err, refl}
+use Rattle.std.proofs.Common.{◌≡◌, List, [], ℕ, Bool, true, false, if◌then◌else◌, Result, Ok, Err, refl}
+use Rattle.std.specs.List.{list_all}
 use Rattle.gcl_reader.specs.declared.refusal.Refusal.{Refusal}
+use Rattle.proof_log.specs.declared.log.Proof.{Proof}
 use Rattle.command_line.specs.Answer.{Answer, text_answer, answer_from}
+use Rattle.command_line.specs.Proving.{proves, proved}
 use Rattle.command_line.specs.Run.{IsSilent}
-use Rattle.command_line.specs.declared.status.Status.TheVariants.{WriteFault}
+use Rattle.command_line.specs.declared.status.Status.TheVariants.{Done, Unproved, WriteFault}
 
 -- a text is done
 pub silent_text : (text : List ℕ) → IsSilent (text_answer text)
@@ -22,3 +25,18 @@ pub proper_from : {A : Type 0} (answer : A → Answer) (bytes : List ℕ) (made 
     → (answer_from answer bytes made).status ≡ WriteFault → ⊥
 proper_from answer bytes (Ok x) proper = proper x
 proper_from answer bytes (Err refusal) proper = λ e. cc
+
+-- a log is done, or done and not proved
+by_status : (out : List ℕ) (b : Bool) → ((if b then Done else Unproved) ≡ Done → ⊥) → ((if b then Done else Unproved) ≡ Unproved → ⊥) → out ≡ []
+by_status out true done unproved = absurd (done refl)
+by_status out false done unproved = absurd (unproved refl)
+
+pub silent_proved : (proofs : List Proof) → IsSilent (proved proofs)
+silent_proved proofs = by_status (proved proofs).out (list_all (λ (p : Proof). proves p.verdict) proofs)
+
+no_fault : (b : Bool) → (if b then Done else Unproved) ≡ WriteFault → ⊥
+no_fault true e = cc
+no_fault false e = cc
+
+pub proper_proved : (proofs : List Proof) → (proved proofs).status ≡ WriteFault → ⊥
+proper_proved proofs = no_fault (list_all (λ (p : Proof). proves p.verdict) proofs)

@@ -100,3 +100,7 @@ pub record IsTextRun {K S N : Type 0} (old new : Lent K S N) (status : Status) :
   pub of_text : (status ≡ Usage → ⊥) × (status ≡ Unproved → ⊥) × (status ≡ Rejected → ⊥)
   pub one_sink : (new.out ≡ old.out) ⊎ (new.notes ≡ old.notes)
   pub unsaid : status ≡ Done → new.notes ≡ old.notes
+
+-- What a call promises besides that proves the statements of a file.
+abbrev pub IsProofRun : Status → Type 0
+IsProofRun status = (status ≡ Usage → ⊥) × (status ≡ Rejected → ⊥)

@@ -1,5 +1,7 @@
 pub mod Note
 pub mod Answer
+pub mod VerdictLines
+pub mod Proving
 pub mod Table
 pub mod Command
 pub mod Pipeline

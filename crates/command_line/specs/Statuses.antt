@@ -1,7 +1,7 @@
 -- The statuses of the stages of a run.
 use Rattle.std.specs.Prelude.{◌≡◌, ◌⊎◌}
 use Rattle.command_line.specs.declared.status.Status.{Status}
-use Rattle.command_line.specs.declared.status.Status.TheVariants.{Done, Refused, ReadFault, WriteFault, TooLarge, OutOfMemory}
+use Rattle.command_line.specs.declared.status.Status.TheVariants.{Done, Unproved, Refused, ReadFault, WriteFault, TooLarge, OutOfMemory}
 
 -- A file was not read.
 abbrev pub IsReadingFault : Status → Type 0
@@ -10,3 +10,7 @@ IsReadingFault status = (status ≡ ReadFault) ⊎ (status ≡ TooLarge) ⊎ (st
 -- A text was put, or the file was refused.
 abbrev pub IsWritingStatus : Status → Type 0
 IsWritingStatus status = (status ≡ Done) ⊎ (status ≡ Refused) ⊎ (status ≡ WriteFault) ⊎ (status ≡ OutOfMemory)
+
+-- A log was put with its verdicts, or the file was refused.
+abbrev pub IsProvingStatus : Status → Type 0
+IsProvingStatus status = (status ≡ Done) ⊎ (status ≡ Unproved) ⊎ (status ≡ Refused) ⊎ (status ≡ WriteFault) ⊎ (status ≡ OutOfMemory)

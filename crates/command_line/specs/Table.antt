@@ -6,11 +6,13 @@ use Rattle.gcl_reader.specs.declared.limits.TheConstants.{MOST_BYTES}
 use Rattle.command_line.specs.Answer.{Answer, usage, read_fault, too_large, text_answer, answer_from}
 use Rattle.command_line.specs.Command.{Command}
 use Rattle.command_line.specs.Pipeline.{svg_of, latex_of, system_of, show_of}
+use Rattle.command_line.specs.Proving.{proofs_of, proved}
 
 -- ---- forms
 -- A form of the command line, with its words behind the first.
 pub data Form : Type 0 where
   TextOf : Command → (file : List ℕ) → Form  -- a text that a command makes of a file
+  ProveOf : (file : List ℕ) → Form  -- the log of a file's proofs
 
 -- A file that a form names, and the most bytes that it may have.
 pub record Source : Type 0 where
@@ -23,11 +25,13 @@ source name most = record { name = name; most = most }
 -- The files of a form, in the order in which they are read.
 abbrev pub sources_of : Form → List Source
 sources_of (TextOf command file) = source file MOST_BYTES ∷ []
+sources_of (ProveOf file) = source file MOST_BYTES ∷ []
 
 -- ---- answers over the bytes of the files
 -- The answer of a form over the bytes of its files.
 abbrev pub IsAnswerOver : Form → List (List ℕ) → Answer → Type 0
 IsAnswerOver (TextOf command file) files a = a ≡ answer_from text_answer (get_or files 0 []) (command (get_or files 0 []))
+IsAnswerOver (ProveOf file) files a = a ≡ answer_from proved (get_or files 0 []) (proofs_of (get_or files 0 []))
 
 -- The answer over a file of at most so many bytes: what comes next sees the bytes.
 abbrev pub OfFile : ℕ → Option (List ℕ) → (List ℕ → Answer → Type 0) → Answer → Type 0
@@ -64,6 +68,7 @@ rows =
     ∷ record { word = codes "latex"; form = one_file (TextOf latex_of) }
     ∷ record { word = codes "system"; form = one_file (TextOf system_of) }
     ∷ record { word = codes "show"; form = one_file (TextOf show_of) }
+    ∷ record { word = codes "prove"; form = one_file ProveOf }
     ∷ []
 
 -- The form that a first word begins, by the first row that has it.

@@ -1,8 +1,8 @@
 // The words of the command line.
 ghost use Rattle.std.specs.Prelude.{◌≡◌, map};
 ghost use Rattle.std.specs.String.{string_bytes};
-ghost use Rattle.command_line.specs.Table.{form_of};
-ghost use Rattle.command_line.specs.Forms.{form_seen};
+ghost use Rattle.command_line.specs.Table.{TextOf, ProveOf, one_file, form_of};
+ghost use Rattle.command_line.specs.Forms.{command_of, form_seen};
 
 /// The forms that make a text of one file.
 #[derive(Clone, Copy, Debug, PartialEq, Eq)]
@@ -20,6 +20,28 @@ pub enum Invocation<'a> {
     Wrong,
     /// A text of the file of a name.
     Text(TextForm, &'a str),
+    /// The log of a file's proofs.
+    Prove(&'a str),
+}
+
+// A form that makes a text, with the words behind its first.
+fn read_text(form: TextForm, names: &[String]) -> Invocation<'_>
+    ensures { form_seen result ≡ one_file (TextOf (command_of form)) (map string_bytes names.now) }
+{
+    match names {
+        [name] => Invocation::Text(form, name.as_str()),
+        _ => Invocation::Wrong,
+    }
+}
+
+// `prove`, with the words behind it.
+fn read_prove(names: &[String]) -> Invocation<'_>
+    ensures { form_seen result ≡ one_file ProveOf (map string_bytes names.now) }
+{
+    match names {
+        [name] => Invocation::Prove(name.as_str()),
+        _ => Invocation::Wrong,
+    }
 }
 
 /// Takes the words after the program's name apart. A name may be any word, also one that begins with `-`.
@@ -29,15 +51,12 @@ pub fn read_command(words: &[String]) -> Invocation<'_>
     let [word, names @ ..] = words else {
         return Invocation::Wrong;
     };
-    let form = match word.as_str() {
-        "svg" => TextForm::Svg,
-        "latex" => TextForm::Latex,
-        "system" => TextForm::System,
-        "show" => TextForm::Show,
-        _ => return Invocation::Wrong,
-    };
-    match names {
-        [name] => Invocation::Text(form, name.as_str()),
+    match word.as_str() {
+        "svg" => read_text(TextForm::Svg, names),
+        "latex" => read_text(TextForm::Latex, names),
+        "system" => read_text(TextForm::System, names),
+        "show" => read_text(TextForm::Show, names),
+        "prove" => read_prove(names),
         _ => Invocation::Wrong,
     }
 }

@@ -8,10 +8,12 @@ mod invocation;
 mod laws;
 mod note;
 mod pipeline;
+mod proving;
 mod run;
 mod stage;
 mod status;
+mod verdict_lines;
 
 pub use laws::answers_are_unique;
-pub use run::{gclc_run, latex_run, show_run, svg_run, system_run};
+pub use run::{gclc_run, latex_run, prove_one_run, show_run, svg_run, system_run};
 pub use status::{Status, exit_code};

@@ -3,14 +3,15 @@ ghost use Rattle.std.specs.Prelude.{◌≡◌, ◌≤◌, ◌⊎◌, List, ℕ, 
 ghost use Rattle.std.specs.String.{string_bytes};
 ghost use Rattle.desk_io.specs.Causes.{Rose};
 ghost use Rattle.desk_io.specs.Files.{Lacks};
-ghost use Rattle.command_line.specs.Table.{IsAnswer, TextOf, form_of};
+ghost use Rattle.command_line.specs.Table.{IsAnswer, TextOf, ProveOf, form_of};
 ghost use Rattle.command_line.specs.Command.{Command};
-ghost use Rattle.command_line.specs.Contract.{IsRun, IsTextRun, IsQuiet, lent, views};
+ghost use Rattle.command_line.specs.Contract.{IsRun, IsTextRun, IsProofRun, IsQuiet, lent, views};
 ghost use Rattle.command_line.specs.Pipeline.{svg_of, latex_of, system_of, show_of};
 ghost use Rattle.command_line.specs.Run.{Answers};
 
 use crate::invocation::{Invocation, TextForm, read_command};
 use crate::pipeline::{LatexCommand, ShowCommand, SvgCommand, SystemCommand};
+use crate::proving::put_file_proofs;
 use crate::stage::{TextCommand, fetch, put_file, say};
 use crate::status::Status;
 use desk_io::{Desk, Sink};
@@ -128,6 +129,50 @@ pub fn show_run<K: Desk, S: Sink, N: Sink>(
     file_run::<ShowCommand, K, S, N>(alloc, name, desk, out, notes)
 }
 
+// Reads the file and proves its statements. The call below says what follows.
+fn proofs_answered<K: Desk, S: Sink, N: Sink>(
+    alloc: Global,
+    name: &str,
+    desk: &mut K,
+    out: &mut S,
+    notes: &mut N,
+) -> Status
+    ensures answered { Answers (K.held desk.old) (Rose (K.faults desk.old) (K.faults desk.new))
+        (IsAnswer (Some (ProveOf name.now)))
+        (S.written out.old) (S.written out.new) (N.written notes.old) (N.written notes.new) result }
+    ensures read_fault { result ≡ Status.ReadFault
+        → Rose (K.faults desk.old) (K.faults desk.new) ⊎ Lacks (K.held desk.old) name.now }
+    ensures write_fault { result ≡ Status.WriteFault
+        → Rose (S.faults out.old) (S.faults out.new) ⊎ Rose (N.faults notes.old) (N.faults notes.new) }
+    ensures untouched { IsQuiet result → out.new ≡ out.old }
+    ensures unsaid { result ≡ Status.OutOfMemory → notes.new ≡ notes.old }
+    ensures same { K.held desk.new ≡ K.held desk.old }
+    ensures later { (K.faults desk.old ≤ K.faults desk.new) × (S.faults out.old ≤ S.faults out.new)
+        × (N.faults notes.old ≤ N.faults notes.new) }
+    ensures proofs { IsProofRun result }
+{
+    match fetch(alloc, name, MOST_BYTES, desk, notes) {
+        Ok(bytes) => put_file_proofs::<S, N>(alloc, &bytes, out, notes),
+        Err(status) => status,
+    }
+}
+
+/// `prove FILE`: writes the log of the file's proofs, by one worker, and says each verdict on notes.
+pub fn prove_one_run<K: Desk, S: Sink, N: Sink>(
+    alloc: Global,
+    name: &str,
+    desk: &mut K,
+    out: &mut S,
+    notes: &mut N,
+) -> Status
+    ensures run { IsRun (views K.held K.faults S.written S.faults N.written N.faults)
+        (lent desk.old out.old notes.old) (lent desk.new out.new notes.new)
+        (Some (ProveOf name.now)) result }
+    ensures proofs { IsProofRun result }
+{
+    proofs_answered::<K, S, N>(alloc, name, desk, out, notes)
+}
+
 /// What the program does with the words after its name.
 pub fn gclc_run<K: Desk, S: Sink, N: Sink>(
     alloc: Global,
@@ -142,12 +187,15 @@ pub fn gclc_run<K: Desk, S: Sink, N: Sink>(
     ensures text { (command : Command) (name : List ℕ)
         → form_of (map string_bytes words.now) ≡ Some (TextOf command name)
         → IsTextRun (lent desk.old out.old notes.old) (lent desk.new out.new notes.new) result }
+    ensures proofs { (name : List ℕ) → form_of (map string_bytes words.now) ≡ Some (ProveOf name)
+        → IsProofRun result }
 {
     match read_command(words) {
         Invocation::Text(TextForm::Svg, name) => svg_run(alloc, name, desk, out, notes),
         Invocation::Text(TextForm::Latex, name) => latex_run(alloc, name, desk, out, notes),
         Invocation::Text(TextForm::System, name) => system_run(alloc, name, desk, out, notes),
         Invocation::Text(TextForm::Show, name) => show_run(alloc, name, desk, out, notes),
+        Invocation::Prove(name) => prove_one_run(alloc, name, desk, out, notes),
         Invocation::Wrong => say(USAGE, Status::Usage, notes),
     }
 }

@@ -83,7 +83,7 @@ module _ {M : Type 0} (o : Operations M) where
   all_covered cover version fuel (p ∷ ps) a = (cover version p.problem fuel p.tree.pieces a.0.tree, all_covered cover version fuel ps a.1)
 
   -- ---- the log
-  log_assured : VerdictsHold o → TreesKeepVariables → (bytes : List ℕ) (log : List Proof) → IsAcceptedText bytes log → AreAssured o (problems_of log) (verdicts_of log)
+  log_assured : VerdictsHold o → TreesKeepVariables → (bytes : List ℕ) (log : List Proof) → IsAcceptedText log bytes → AreAssured o (problems_of log) (verdicts_of log)
   unfolding AreLines
   log_assured hold keep bytes log t =
       all_assured hold keep t.version (MOST_FUEL / length log) 1 [] log t.accepted (lines_front [] (proofs_lines 1 log) (line.End ∷ []) t.lines.1.1)

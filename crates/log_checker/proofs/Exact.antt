@@ -1,5 +1,5 @@
--- Bytes have one judgement.
-use Rattle.std.proofs.Common.{rules, ◌≡◌, ◌≢◌, ℕ, zero, suc, ◌+◌, ◌<◌, ◌≤◌, List, [], ◌∷◌, ◌++◌, drop, length, refl, sym, ◌∙◌, ap, arith, Option, Some, None, append_assoc, append-nil, subst, length-append, inl, inr, ◌⊎◌, true}
+-- Of no bytes two things are found.
+use Rattle.std.proofs.Common.{◌≡◌, ◌≢◌, ℕ, ◌+◌, List, [], ◌∷◌, ◌++◌, length, refl, sym, ◌∙◌, ap, arith, Option, Some, None, append_assoc, append-nil, subst, length-append, inl, inr, ◌⊎◌, true}
 use Rattle.poly_model.specs.Names.{are_variables}
 use Rattle.poly_model.specs.declared.vars.VarName.{VarName}
 use Rattle.proof_log.specs.Grammar.{IsFront, IsWhole, IsUnended, Begins, Refuses, EndsEarly, names_behind}
@@ -8,16 +8,15 @@ use Rattle.proof_log.specs.Text.{row_of, line_text, names_after, text_of, IsLine
 use Rattle.proof_log.specs.declared.line.LogLine.{LogLine}
 use Rattle.proof_log.specs.declared.line.LineWord.{LineWord}
 use Rattle.proof_log.specs.declared.log.Proof.{Proof}
-use Rattle.proof_log.proofs.Bytes.{cut}
-use Rattle.proof_log.proofs.Held.{no_cut}
+use Rattle.proof_log.proofs.Bytes.{cut, heads}
 use Rattle.proof_log.proofs.OneLine.{one_line}
 use Rattle.proof_log.proofs.OneText.{line-plain, names-kept, one_log_text}
+use Rattle.log_checker.specs.Answers.{Finding, Accepted, Malformed, Rejected, IsFound, IsAcceptedText, IsMalformed, IsRejected}
 use Rattle.log_checker.specs.Fitting.{State, begin, after, fitted}
-use Rattle.log_checker.specs.Answers.{IsAcceptedText, IsMalformed, IsRejected, Judgement, AcceptedLog, MalformedAt, RejectedAt, IsJudgement}
-use Rattle.log_checker.proofs.Fits.{fitted_from, log_goes}
-use Rattle.log_checker.proofs.Running.{fitted_append}
+use Rattle.log_checker.proofs.Fits.{log_goes}
 
--- One list of lines goes on where the other ends.
+-- ---- two lists of lines in one text
+-- One goes on where the other ends.
 pub record Longer (names : List VarName) (a b : List LogLine) (x y : List ℕ) : Type 0 where
   pub more : List LogLine
   pub is : b ≡ a ++ more
@@ -27,19 +26,19 @@ grow : (names : List VarName) (l : LogLine) (a b : List LogLine) (x y : List ℕ
 unfolding names_behind
 grow names l a b x y r = record { more = r.more; is = ap (λ t. l ∷ t) r.is; rest = r.rest }
 
--- two texts up to their first LF
-ends : (a b x y : List ℕ) → IsUnended a → IsUnended b → a ++ 10 ∷ x ≡ b ++ 10 ∷ y → (a ≡ b) × (x ≡ y)
-ends a b x y u v e = let c = cut 10 a b (10 ∷ x) (10 ∷ y) u v refl refl e in (c.0, ap (drop 1) c.1)
+same_cut : (a b x y : List ℕ) → IsUnended a → IsUnended b → a ++ 10 ∷ x ≡ b ++ 10 ∷ y → (a ≡ b) × (x ≡ y)
+same_cut a b x y u v e = let h = cut 10 a b (10 ∷ x) (10 ∷ y) u v refl refl e in (h.0, (heads 10 10 x y h.1).1)
 
-pub compare : (names : List VarName) (a b : List LogLine) (x y : List ℕ) → are_variables names ≡ true → AreLines names a → AreLines names b → text_of names a ++ x ≡ text_of names b ++ y → Longer names a b x y ⊎ Longer names b a y x
+pub compare : (names : List VarName) (a b : List LogLine) (x y : List ℕ) → are_variables names ≡ true → AreLines names a → AreLines names b → text_of names a ++ x ≡ text_of names b ++ y
+    → Longer names a b x y ⊎ Longer names b a y x
 unfolding AreLines text_of names_behind
 compare names [] b x y v f g e = inl (record { more = b; is = refl; rest = e })
 compare names (l ∷ a) [] x y v f g e = inr (record { more = l ∷ a; is = refl; rest = sym e })
 compare names (l ∷ a) (m ∷ b) x y v f g e =
-    let cut = ends (line_text names l) (line_text names m) (text_of (names_after names l) a ++ x) (text_of (names_after names m) b ++ y) (line-plain names v l f.0) (line-plain names v m g.0)
+    let cuts = same_cut (line_text names l) (line_text names m) (text_of (names_after names l) a ++ x) (text_of (names_after names m) b ++ y) (line-plain names v l f.0) (line-plain names v m g.0)
     (sym (append_assoc (line_text names l) (10 ∷ text_of (names_after names l) a) x) ∙ e ∙ append_assoc (line_text names m) (10 ∷ text_of (names_after names m) b) y) in
-    let same = one_line names l m v f.0 g.0 cut.0 in
-    elim (compare (names_after names l) a b x y (names-kept names l v f.0) f.1 (subst (λ k. AreLines (names_after names k) b) (sym same) g.1) (cut.1 ∙ ap (λ k. text_of (names_after names k) b ++ y) (sym same))) [
+    let same = one_line names l m v f.0 g.0 cuts.0 in
+    elim (compare (names_after names l) a b x y (names-kept names l v f.0) f.1 (subst (λ k. AreLines (names_after names k) b) (sym same) g.1) (cuts.1 ∙ ap (λ k. text_of (names_after names k) b ++ y) (sym same))) [
       | inl r ↦ inl (subst (λ k. Longer names (l ∷ a) (k ∷ b) x y) same (grow names l a b x y r))
       | inr r ↦ inr (subst (λ k. Longer names (k ∷ b) (l ∷ a) y x) same (grow names l b a y x r))
     ]
@@ -69,7 +68,14 @@ unfolding AreLines names_behind
 names_all names [] v h = v
 names_all names (l ∷ a) v h = names_all (names_after names l) a (names-kept names l v h.0) h.1
 
-no_more : (front b : List LogLine) (l : LogLine) (more : List LogLine) (y bytes : List ℕ) (s : Stops front bytes) → Begins b y bytes → b ≡ front ++ l ∷ more → rest_of front bytes s ≡ text_of (names_behind [] front) (l ∷ more) ++ y → ⊥
+no_cut : (a b x : List ℕ) → IsUnended a → IsUnended b → a ++ 10 ∷ x ≢ b
+no_cut [] [] x u v e = cc
+no_cut [] (c ∷ b) x u v e = v.0 (let h : 10 ≡ c = cc in sym h)
+no_cut (c ∷ a) [] x u v e = cc
+no_cut (c ∷ a) (d ∷ b) x u v e = let t : a ++ 10 ∷ x ≡ b = cc in no_cut a b x u.1 v.1 t
+
+no_more : (front b : List LogLine) (l : LogLine) (more : List LogLine) (y bytes : List ℕ) (s : Stops front bytes) → Begins b y bytes → b ≡ front ++ l ∷ more
+    → rest_of front bytes s ≡ text_of (names_behind [] front) (l ∷ more) ++ y → ⊥
 unfolding text_of AreLines
 no_more front b l more y bytes s g e f = by_stop s f where
   names : List VarName
@@ -94,29 +100,42 @@ no_more front b l more y bytes s g e f = by_stop s f where
   }
 
   by_stop : (t : Stops front bytes) → rest_of front bytes t ≡ text_of names (l ∷ more) ++ y → ⊥
-  by_stop (inl r) h = r.no_line l fits.0 first (ends r.refused (line_text names l) r.more tail r.one_line (line-plain names v l fits.0) (h ∙ append_assoc (line_text names l) (10 ∷ text_of (names_after names l) more) y)).0
+  by_stop (inl r) h =
+      r.no_line l fits.0 first (same_cut r.refused (line_text names l) r.more tail r.one_line (line-plain names v l fits.0) (h ∙ append_assoc (line_text names l) (10 ∷ text_of (names_after names l) more) y)).0
   by_stop (inr r) h = no_cut (line_text names l) r.rest tail (line-plain names v l fits.0) r.unended (sym (h ∙ append_assoc (line_text names l) (10 ∷ text_of (names_after names l) more) y))
 
 -- so whatever else the bytes begin with is a front of what stands before the malformed line
-pub within : (front b : List LogLine) (y bytes : List ℕ) (s : Stops front bytes) → Begins b y bytes → Longer [] b front y (rest_of front bytes s)
+within : (front b : List LogLine) (y bytes : List ℕ) (s : Stops front bytes) → Begins b y bytes → Longer [] b front y (rest_of front bytes s)
 unfolding text_of
 within front b y bytes s g = elim (begins_two front b (rest_of front bytes s) y bytes (stop_begins front bytes s) g) [
   | inr r ↦ r
   | inl r ↦ none_more r r.more refl
 ] where
   none_more : (r : Longer [] front b (rest_of front bytes s) y) (m : List LogLine) → r.more ≡ m → Longer [] b front y (rest_of front bytes s)
-  none_more r [] e = let same : b ≡ front = r.is ∙ ap (λ t. front ++ t) e ∙ append-nil front in
+  none_more r [] e =
+      let same : b ≡ front = r.is ∙ ap (λ t. front ++ t) e ∙ append-nil front in
       record { more = []; is = sym same ∙ sym (append-nil b); rest = sym (r.rest ∙ ap (λ t. text_of (names_behind [] front) t ++ y) e) }
   none_more r (l ∷ m) e = absurd (no_more front b l m y bytes s g (r.is ∙ ap (λ t. front ++ t) e) (r.rest ∙ ap (λ t. text_of (names_behind [] front) t ++ y) e))
 
 -- ---- a front of lines that fit has no misfit
+fitted_append : (s t : State) (a b : List LogLine) → fitted s a ≡ Some t → fitted s (a ++ b) ≡ fitted t b
+unfolding fitted
+fitted_append s t [] b e = ap (λ (o : Option State). elim o [ None ↦ fitted s b | Some u ↦ fitted u b ]) e
+fitted_append s t (l ∷ a) b e = by (after s l) e where
+  by : (o : Option State) → ◌≡◌ {A = Option State} (elim o [ None ↦ None | Some u ↦ fitted u a ]) (Some t)
+      → ◌≡◌ {A = Option State} (elim o [ None ↦ None | Some u ↦ fitted u (a ++ b) ]) (fitted t b)
+  by None h = cc
+  by (Some u) h = fitted_append u t a b h
+
 misfit_within : (a more : List LogLine) (l : LogLine) (s t : State) (ls : List LogLine) → fitted begin a ≡ Some s → after s l ≡ None → ls ≡ (a ++ l ∷ []) ++ more → fitted begin ls ≡ Some t → ⊥
 unfolding fitted
 misfit_within a more l s t ls fit none e f =
-    let h : fitted begin ((a ++ l ∷ []) ++ more) ≡ None = ap (fitted begin) (append_assoc a (l ∷ []) more) ∙ fitted_append begin s a (l ∷ more) fit ∙ ap (λ o. fitted_from o more) none in
+    let h : fitted begin ((a ++ l ∷ []) ++ more) ≡ None = ap (fitted begin) (append_assoc a (l ∷ []) more) ∙ fitted_append begin s a (l ∷ more) fit
+        ∙ ap (λ (o : Option State). elim o as (λ _. Option State) [ None ↦ None | Some u ↦ fitted u more ]) none in
     let g : ◌≡◌ {A = Option State} None (Some t) = sym h ∙ ap (fitted begin) (sym e) ∙ f in cc
 
-two_malformed : (bytes : List ℕ) (n m : ℕ) → IsMalformed bytes n → IsMalformed bytes m → n ≡ m
+-- ---- two findings
+two_malformed : (bytes : List ℕ) (n m : ℕ) → IsMalformed n bytes → IsMalformed m bytes → n ≡ m
 two_malformed bytes n m a b =
     let p = within a.front b.front (rest_of b.front bytes b.stops) bytes a.stops (stop_begins b.front bytes b.stops) in
     let q = within b.front a.front (rest_of a.front bytes a.stops) bytes b.stops (stop_begins a.front bytes a.stops) in
@@ -128,12 +147,12 @@ two_malformed bytes n m a b =
     let d = b.number in
     omega (arith, i, j, k, l, c, d)
 
-malformed_rejected : (bytes : List ℕ) (n m : ℕ) (w : LineWord) → IsMalformed bytes n → IsRejected bytes m w → ⊥
+malformed_rejected : (bytes : List ℕ) (n m : ℕ) (w : LineWord) → IsMalformed n bytes → IsRejected m w bytes → ⊥
 malformed_rejected bytes n m w a b =
     let p = within a.front (b.front ++ b.line ∷ []) b.rest bytes a.stops b.begins in
-    misfit_within b.front p.more b.line b.fits.state a.fits.state a.front b.fits.fit b.misfit p.is a.fits.fit
+    misfit_within b.front p.more b.line b.state a.state a.front b.fit b.misfit p.is a.fit
 
-whole_begins : (bytes : List ℕ) (log : List Proof) (t : IsAcceptedText bytes log) → Begins (log_lines t.version log) [] bytes
+whole_begins : (bytes : List ℕ) (log : List Proof) (t : IsAcceptedText log bytes) → Begins (log_lines t.version log) [] bytes
 whole_begins bytes log t = record {
   lines = t.lines;
   grammar = record { version = t.version; log = log; fits = t.fits; more = []; begins = sym (append-nil (log_lines t.version log)) };
@@ -143,27 +162,27 @@ whole_begins bytes log t = record {
 nothing_behind : (names : List VarName) (more : List LogLine) (y : List ℕ) → ◌≡◌ {A = List ℕ} [] (text_of names more ++ y) → (more ≡ []) × (y ≡ [])
 unfolding text_of
 nothing_behind names [] y e = (refl, sym e)
-nothing_behind names (l ∷ more) y e = absurd (let h = ap length e in let a = length-append (line_text names l ++ 10 ∷ text_of (names_after names l) more) y in let b = length-append (line_text names l) (10 ∷ text_of (names_after names l) more) in omega (arith, h, a, b))
+nothing_behind names (l ∷ more) y e =
+    absurd (let h = ap length e in let a = length-append (line_text names l ++ 10 ∷ text_of (names_after names l) more) y in let b = length-append (line_text names l) (10 ∷ text_of (names_after names l) more) in omega (arith, h, a, b))
 
-accepted_malformed : (bytes : List ℕ) (log : List Proof) (n : ℕ) → IsAcceptedText bytes log → IsMalformed bytes n → ⊥
-accepted_malformed bytes log n t a = by_stop a.stops (within a.front whole [] bytes a.stops (whole_begins bytes log t)) where
-  whole : List LogLine
-  whole = log_lines t.version log
-
-  by_stop : (s : Stops a.front bytes) → Longer [] whole a.front [] (rest_of a.front bytes s) → ⊥
-  by_stop (inl r) p = let q = nothing_behind (names_behind [] whole) p.more (r.refused ++ 10 ∷ r.more) p.rest in
+accepted_malformed : (bytes : List ℕ) (log : List Proof) (n : ℕ) → IsAcceptedText log bytes → IsMalformed n bytes → ⊥
+accepted_malformed bytes log n t a = by_stop a.stops (within a.front (log_lines t.version log) [] bytes a.stops (whole_begins bytes log t)) where
+  by_stop : (s : Stops a.front bytes) → Longer [] (log_lines t.version log) a.front [] (rest_of a.front bytes s) → ⊥
+  by_stop (inl r) p =
+      let q = nothing_behind (names_behind [] (log_lines t.version log)) p.more (r.refused ++ 10 ∷ r.more) p.rest in
       let h = ap length q.1 in let k = length-append r.refused (10 ∷ r.more) in absurd (omega (arith, h, k))
-  by_stop (inr r) p = let q = nothing_behind (names_behind [] whole) p.more r.rest p.rest in
-      r.early q.1 (record { version = t.version; log = log; fits = t.fits; whole = p.is ∙ ap (λ l. whole ++ l) q.0 ∙ append-nil whole })
+  by_stop (inr r) p =
+      let q = nothing_behind (names_behind [] (log_lines t.version log)) p.more r.rest p.rest in
+      r.early q.1 (record { version = t.version; log = log; fits = t.fits; whole = p.is ∙ ap (λ l. log_lines t.version log ++ l) q.0 ∙ append-nil (log_lines t.version log) })
 
-accepted_rejected : (bytes : List ℕ) (log : List Proof) (n : ℕ) (w : LineWord) → IsAcceptedText bytes log → IsRejected bytes n w → ⊥
+accepted_rejected : (bytes : List ℕ) (log : List Proof) (n : ℕ) (w : LineWord) → IsAcceptedText log bytes → IsRejected n w bytes → ⊥
 accepted_rejected bytes log n w t b =
-    let whole = log_lines t.version log in
     let goes = log_goes t.version log t.accepted in
-    elim (begins_two (b.front ++ b.line ∷ []) whole b.rest [] bytes b.begins (whole_begins bytes log t)) [
-      | inl r ↦ misfit_within b.front r.more b.line b.fits.state goes.0 whole b.fits.fit b.misfit r.is goes.1
-      | inr r ↦ let q = nothing_behind (names_behind [] whole) r.more b.rest r.rest in
-          misfit_within b.front [] b.line b.fits.state goes.0 whole b.fits.fit b.misfit (sym (r.is ∙ ap (λ l. whole ++ l) q.0 ∙ append-nil whole) ∙ sym (append-nil (b.front ++ b.line ∷ []))) goes.1
+    elim (begins_two (b.front ++ b.line ∷ []) (log_lines t.version log) b.rest [] bytes b.begins (whole_begins bytes log t)) [
+      | inl r ↦ misfit_within b.front r.more b.line b.state goes.0 (log_lines t.version log) b.fit b.misfit r.is goes.1
+      | inr r ↦ let q = nothing_behind (names_behind [] (log_lines t.version log)) r.more b.rest r.rest in
+          misfit_within b.front [] b.line b.state goes.0 (log_lines t.version log) b.fit b.misfit
+          (sym (r.is ∙ ap (λ l. log_lines t.version log ++ l) q.0 ∙ append-nil (log_lines t.version log)) ∙ sym (append-nil (b.front ++ b.line ∷ []))) goes.1
     ]
 
 snoc_same : (a b : List LogLine) (l m : LogLine) → a ++ l ∷ [] ≡ b ++ m ∷ [] → (a ≡ b) × (l ≡ m)
@@ -177,32 +196,31 @@ last_of [] h = absurd (h refl)
 last_of (l ∷ []) h = ([], l, refl)
 last_of (l ∷ m ∷ more) h = let r = last_of (m ∷ more) (λ e. cc) in (l ∷ r.0, r.1, ap (λ t. l ∷ t) r.2)
 
-rejected_longer : (bytes : List ℕ) (n m : ℕ) (w v : LineWord) (a : IsRejected bytes n w) (b : IsRejected bytes m v) (more : List LogLine) → b.front ++ b.line ∷ [] ≡ (a.front ++ a.line ∷ []) ++ more → (n ≡ m) × (w ≡ v)
+rejected_longer : (bytes : List ℕ) (n m : ℕ) (w v : LineWord) (a : IsRejected n w bytes) (b : IsRejected m v bytes) (more : List LogLine)
+    → b.front ++ b.line ∷ [] ≡ (a.front ++ a.line ∷ []) ++ more → (n ≡ m) × (w ≡ v)
 rejected_longer bytes n m w v a b [] e =
     let r = snoc_same b.front a.front b.line a.line (e ∙ append-nil (a.front ++ a.line ∷ [])) in
-    (a.number ∙ ap (λ l. length l + 1) (sym r.0) ∙ sym b.number, a.names ∙ ap (λ l. (row_of l).word) (sym r.1) ∙ sym b.names)
+    (a.number ∙ ap (λ l. length l + 1) (sym r.0) ∙ sym b.number, a.word ∙ ap (λ l. (row_of l).word) (sym r.1) ∙ sym b.word)
 rejected_longer bytes n m w v a b (l ∷ more) e =
     let r = last_of (l ∷ more) (λ h. cc) in
-    let s = snoc_same b.front ((a.front ++ a.line ∷ []) ++ r.0) b.line r.1 (e ∙ ap (λ t. (a.front ++ a.line ∷ []) ++ t) r.2 ∙ sym (append_assoc (a.front ++ a.line ∷ []) r.0 (r.1 ∷ []))) in
-    absurd (misfit_within a.front r.0 a.line a.fits.state b.fits.state b.front a.fits.fit a.misfit s.0 b.fits.fit)
+    let s = snoc_same b.front ((a.front ++ a.line ∷ []) ++ r.0) b.line r.1
+        (e ∙ ap (λ t. (a.front ++ a.line ∷ []) ++ t) r.2 ∙ sym (append_assoc (a.front ++ a.line ∷ []) r.0 (r.1 ∷ []))) in
+    absurd (misfit_within a.front r.0 a.line a.state b.state b.front a.fit a.misfit s.0 b.fit)
 
-two_rejected : (bytes : List ℕ) (n m : ℕ) (w v : LineWord) → IsRejected bytes n w → IsRejected bytes m v → (n ≡ m) × (w ≡ v)
+two_rejected : (bytes : List ℕ) (n m : ℕ) (w v : LineWord) → IsRejected n w bytes → IsRejected m v bytes → (n ≡ m) × (w ≡ v)
 two_rejected bytes n m w v a b = elim (begins_two (a.front ++ a.line ∷ []) (b.front ++ b.line ∷ []) a.rest b.rest bytes a.begins b.begins) [
   | inl r ↦ rejected_longer bytes n m w v a b r.more r.is
   | inr r ↦ let q = rejected_longer bytes m n v w b a r.more r.is in (sym q.0, sym q.1)
 ]
 
-two_accepted : (bytes : List ℕ) (log other : List Proof) → IsAcceptedText bytes log → IsAcceptedText bytes other → log ≡ other
-two_accepted bytes log other a b = (one_log_text a.version b.version log other a.fits.written b.fits.written a.lines b.lines (sym a.text ∙ b.text)).1
-
--- ---- one judgement
-pub one_judgement : (bytes : List ℕ) (x y : Judgement) → IsJudgement bytes x → IsJudgement bytes y → x ≡ y
-one_judgement bytes (AcceptedLog log) (AcceptedLog other) a b = ap AcceptedLog (two_accepted bytes log other a b)
-one_judgement bytes (AcceptedLog log) (MalformedAt n) a b = absurd (accepted_malformed bytes log n a b)
-one_judgement bytes (AcceptedLog log) (RejectedAt n w) a b = absurd (accepted_rejected bytes log n w a b)
-one_judgement bytes (MalformedAt n) (AcceptedLog log) a b = absurd (accepted_malformed bytes log n b a)
-one_judgement bytes (MalformedAt n) (MalformedAt m) a b = ap MalformedAt (two_malformed bytes n m a b)
-one_judgement bytes (MalformedAt n) (RejectedAt m w) a b = absurd (malformed_rejected bytes n m w a b)
-one_judgement bytes (RejectedAt n w) (AcceptedLog log) a b = absurd (accepted_rejected bytes log n w b a)
-one_judgement bytes (RejectedAt n w) (MalformedAt m) a b = absurd (malformed_rejected bytes m n w b a)
-one_judgement bytes (RejectedAt n w) (RejectedAt m v) a b = let r = two_rejected bytes n m w v a b in λ i. RejectedAt (r.0 i) (r.1 i)
+pub one_finding : (bytes : List ℕ) (x y : Finding) → IsFound x bytes → IsFound y bytes → x ≡ y
+one_finding bytes (Accepted ps) (Accepted qs) a b =
+    ap Accepted (one_log_text a.version b.version ps qs a.fits.written b.fits.written a.lines b.lines (sym a.text ∙ b.text)).1
+one_finding bytes (Accepted ps) (Malformed n) a b = absurd (accepted_malformed bytes ps n a b)
+one_finding bytes (Accepted ps) (Rejected n w) a b = absurd (accepted_rejected bytes ps n w a b)
+one_finding bytes (Malformed n) (Accepted qs) a b = absurd (accepted_malformed bytes qs n b a)
+one_finding bytes (Malformed n) (Malformed m) a b = ap Malformed (two_malformed bytes n m a b)
+one_finding bytes (Malformed n) (Rejected m w) a b = absurd (malformed_rejected bytes n m w a b)
+one_finding bytes (Rejected n w) (Accepted qs) a b = absurd (accepted_rejected bytes qs n w b a)
+one_finding bytes (Rejected n w) (Malformed m) a b = absurd (malformed_rejected bytes m n w b a)
+one_finding bytes (Rejected n w) (Rejected m v) a b = let r = two_rejected bytes n m w v a b in λ i. Rejected (r.0 i) (r.1 i)

@@ -33,7 +33,7 @@ use Rattle.log_checker.specs.Accepted.{with_ending}
 use Rattle.poly_model.specs.Equality.{same-is, same-self}
 use Rattle.proof_steps.proofs.Following.{same_path-is, same_list-is, same_path-self}
 use Rattle.log_checker.proofs.Inside.{piece_read, piece_written}
-use Rattle.log_checker.proofs.Tally.{tally_tells}
+use Rattle.assurance.proofs.Tally.{tally_tells}
 
 abbrev pub fitted_from : Option State → List LogLine → Option State
 fitted_from o ls = elim o [ None ↦ None | Some t ↦ fitted t ls ]

@@ -105,19 +105,20 @@ fed_begins (Err (log.Malformed n)) front r bytes f = let s : Stopped front bytes
 fed_begins (Err log.OutOfMemory) front r bytes f = subst (λ o. FedWith o front r bytes) f.0 f.1
 
 -- ---- a line that does not fit
-reject : (front ls : List LogLine) (s : State) (i n : ℕ) (w : LineWord) (rest bytes : List ℕ) → Begins (front ++ ls) rest bytes → fitted begin front ≡ Some s → Misfits s ls i w → n ≡ length front + i + 1 → IsRejected bytes n w
+reject : (front ls : List LogLine) (s : State) (i n : ℕ) (w : LineWord) (rest bytes : List ℕ) → Begins (front ++ ls) rest bytes → fitted begin front ≡ Some s → Misfits s ls i w → n ≡ length front + i + 1 → IsRejected n w bytes
 reject front ls s i n w rest bytes b fit m e =
     let regroup : front ++ ls ≡ ((front ++ m.front) ++ m.line ∷ []) ++ m.rest =
     ap (λ t. front ++ t) m.parts ∙ sym (append_assoc front m.front (m.line ∷ m.rest)) ∙ sym (append_assoc (front ++ m.front) (m.line ∷ []) m.rest) in
     record {
       front = front ++ m.front;
-      fits = record { state = m.state; fit = fitted_append begin s front m.front fit ∙ m.fit };
+      state = m.state;
+      fit = fitted_append begin s front m.front fit ∙ m.fit;
       line = m.line;
       rest = text_of (names_behind [] ((front ++ m.front) ++ m.line ∷ [])) m.rest ++ rest;
       begins = begins_front ((front ++ m.front) ++ m.line ∷ []) m.rest rest bytes (subst (λ t. Begins t rest bytes) regroup b);
       misfit = m.misfit;
       number = let p = m.place in let l = length-append front m.front in omega (arith, e, p, l);
-      names = m.names;
+      word = m.names;
     }
 
 misfit_inside : (s : State) (ls : List LogLine) (i : ℕ) (w : LineWord) → Misfits s ls i w → i < length ls
@@ -125,7 +126,7 @@ misfit_inside s ls i w m = let a = ap length m.parts in let b = length-append m.
 
 pub piece_rejected : (x : Result (Unit {0}) LogFault) (front added : List LogLine) (r : LogReader) (p : Progress) (bytes piece : List ℕ) (seen i n : ℕ) (w : LineWord)
     → length bytes + length piece ≤ 2 ^ 30 → FedTo x (front ++ added) r (bytes ++ piece) → IsBehind front p seen → Misfits (state_of p.checker) added i w
-    → (seen + i + 1 < 2 ^ 32 → n ≡ seen + i + 1) → (more : List ℕ) → IsRejected (bytes ++ (piece ++ more)) n w
+    → (seen + i + 1 < 2 ^ 32 → n ≡ seen + i + 1) → (more : List ℕ) → IsRejected n w (bytes ++ (piece ++ more))
 piece_rejected x front added r p bytes piece seen i n w small f h m e more =
     let b = fed_begins x (front ++ added) r (bytes ++ piece) f in
     let few = few_lines (front ++ added) b.0 (bytes ++ piece) b.1 in
@@ -134,16 +135,17 @@ piece_rejected x front added r p bytes piece seen i n w small f h m e more =
     let inside = misfit_inside (state_of p.checker) added i w m in
     let count = h.count in
     let is = e (omega (arith, small, few, all, both, inside, count)) in
-    subst (λ t. IsRejected t n w) (append_assoc bytes piece more)
+    subst (λ t. IsRejected n w t) (append_assoc bytes piece more)
     (reject front added (state_of p.checker) i n w (b.0 ++ more) ((bytes ++ piece) ++ more) (begins_more (front ++ added) b.0 (bytes ++ piece) more b.1) h.fit m (is ∙ ap (λ k. k + i + 1) count))
 
 pub piece_malformed : (front added : List LogLine) (r : LogReader) (p q : Progress) (bytes piece : List ℕ) (seen n : ℕ)
-    → FedTo (Err (log.Malformed n)) (front ++ added) r (bytes ++ piece) → IsBehind front p seen → Went p added q → (more : List ℕ) → IsMalformed (bytes ++ (piece ++ more)) n
+    → FedTo (Err (log.Malformed n)) (front ++ added) r (bytes ++ piece) → IsBehind front p seen → Went p added q → (more : List ℕ) → IsMalformed n (bytes ++ (piece ++ more))
 piece_malformed front added r p q bytes piece seen n f h w more =
     let s : Stopped (front ++ added) (bytes ++ piece) n = subst (λ o. FedWith o (front ++ added) r (bytes ++ piece)) f.0 f.1 in
     record {
       front = front ++ added;
-      fits = record { state = state_of q.checker; fit = fitted_append begin (state_of p.checker) front added h.fit ∙ w.fit };
+      state = state_of q.checker;
+      fit = fitted_append begin (state_of p.checker) front added h.fit ∙ w.fit;
       stops = inl (subst (λ t. Refuses (front ++ added) t) (append_assoc bytes piece more) (refuses_more (front ++ added) (bytes ++ piece) more s.refuses));
       number = s.number;
     }
@@ -210,5 +212,5 @@ all_passed bytes (b ∷ rest) r p seen s e = absurd (omega (arith, e))
 pub both_parts : (n : ℕ) (t front behind : List ℕ) → front ≡ take n t → behind ≡ drop n t → t ≡ front ++ behind
 both_parts n t front behind e f = let h : take n t ++ drop n t ≡ t = grind (arith, common_steps) in sym h ∙ ap (λ x. x ++ drop n t) (sym e) ∙ ap (λ x. front ++ x) (sym f)
 
-pub ends_ill : (front : List LogLine) (p : Progress) (bytes : List ℕ) (seen n : ℕ) → (Refuses front bytes ⊎ EndsEarly front bytes) × (n ≡ length front + 1) → IsBehind front p seen → IsMalformed bytes n
-ends_ill front p bytes seen n e h = record { front = front; fits = record { state = state_of p.checker; fit = h.fit }; stops = e.0; number = e.1 }
+pub ends_ill : (front : List LogLine) (p : Progress) (bytes : List ℕ) (seen n : ℕ) → (Refuses front bytes ⊎ EndsEarly front bytes) × (n ≡ length front + 1) → IsBehind front p seen → IsMalformed n bytes
+ends_ill front p bytes seen n e h = record { front = front; state = state_of p.checker; fit = h.fit; stops = e.0; number = e.1 }

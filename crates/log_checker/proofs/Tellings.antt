@@ -138,7 +138,7 @@ log_told version log = gathered_append nothing (proofs_lines 1 log) (line.End �
 
 -- the bytes have ended behind lines that fit
 pub ends_well : (front : List LogLine) (p : Progress) (bytes : List ℕ) (seen : ℕ) (checked : Checked) → Whole front bytes → IsBehind front p seen
-    → checked.problems ≡ p.told.problems.items → checked.verdicts ≡ p.told.verdicts.items → (log : List Proof) × IsAcceptedText bytes log × Tells checked log
+    → checked.problems ≡ p.told.problems.items → checked.verdicts ≡ p.told.verdicts.items → (log : List Proof) × IsAcceptedText log bytes × Tells checked log
 ends_well front p bytes seen checked w h problems verdicts =
     let log = w.whole.log in
     let version = w.whole.version in

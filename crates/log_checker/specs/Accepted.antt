@@ -1,12 +1,10 @@
 -- That the lines of accepted logs fit.
 use Rattle.std.specs.Prelude.{◌≡◌, ◌↔◌, ℕ, List, IsTrue, Option, Some, None}
 use Rattle.poly_model.specs.Polynomial.{Polynomial}
-use Rattle.proof_steps.specs.Trees.{same_path, follow, is_tree_of}
+use Rattle.proof_steps.specs.Trees.{same_path, follow}
 use Rattle.proof_steps.specs.declared.piece.Node.{Node}
 use Rattle.proof_steps.specs.declared.piece.Piece.{Piece}
-use Rattle.proof_steps.specs.declared.problem.Problem.{Problem}
-use Rattle.verdicts.specs.Verdicts.{verdict_of}
-use Rattle.verdicts.specs.Tallies.{Ending, ending_of, no_tally, tally_of, verdict_told}
+use Rattle.verdicts.specs.Tallies.{Ending, ending_of}
 use Rattle.proof_log.specs.Accepted.{IsAccepted}
 use Rattle.proof_log.specs.declared.log.Proof.{Proof}
 use Rattle.proof_log.specs.Lines.{work_lines, log_lines, PieceWritten, LogWritten}
@@ -27,9 +25,6 @@ PiecesEnd = (version : ℕ) (cons : List Polynomial) (n : Node) (p : Piece) → 
 
 abbrev pub PiecesAreWritten : Type 0
 PiecesAreWritten = (version : ℕ) (cons : List Polynomial) (n : Node) (p : Piece) (ms : List Node) → follow version cons n p ≡ Some ms → PieceWritten cons p
-
-abbrev pub TalliesTell : Type 0
-TalliesTell = (version : ℕ) (problem : Problem) (fuel : ℕ) (pieces : List Piece) → IsTrue (is_tree_of version problem fuel pieces) → verdict_told (tally_of no_tally pieces) ≡ verdict_of pieces
 
 -- The lines fit one after the other.
 abbrev pub Fits : (version : ℕ) → List Proof → Type 0

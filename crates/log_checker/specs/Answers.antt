@@ -1,4 +1,4 @@
--- What the bytes of a log are: the text of an accepted log, or a first line at fault.
+-- What is found of the bytes of a log: that it is accepted, or its first line at fault.
 use Rattle.std.specs.Prelude.{◌≡◌, ℕ, ◌+◌, List, [], ◌∷◌, ◌++◌, ◌⊎◌, length, Some, None}
 use Rattle.proof_log.specs.Accepted.{IsAccepted}
 use Rattle.proof_log.specs.Grammar.{IsLog, Begins, Refuses, EndsEarly}
@@ -9,48 +9,40 @@ use Rattle.proof_log.specs.declared.line.LineWord.{LineWord}
 use Rattle.proof_log.specs.declared.log.Proof.{Proof}
 use Rattle.log_checker.specs.Fitting.{State, begin, after, fitted}
 
--- The text of a log that is accepted by the rules of the version that its first line tells.
-pub record IsAcceptedText (bytes : List ℕ) (log : List Proof) : Type 0 where
+pub data Finding : Type 0 where
+  Accepted : List Proof → Finding
+  Malformed : (line : ℕ) → Finding
+  Rejected : (line : ℕ) → LineWord → Finding
+
+-- The bytes are the text of a log of these proofs, which is accepted.
+pub record IsAcceptedText (log : List Proof) (bytes : List ℕ) : Type 0 where
   pub version : ℕ
   pub fits : IsLog log
   pub lines : AreLines [] (log_lines version log)
   pub text : bytes ≡ text_of [] (log_lines version log)
   pub accepted : IsAccepted version log
 
--- Lines that fit, each in its turn.
-pub record AllFit (front : List LogLine) : Type 0 where
+-- The line of a number is malformed: the grammar refuses it, or the bytes end there too early. Each line before it fits.
+pub record IsMalformed (n : ℕ) (bytes : List ℕ) : Type 0 where
+  pub front : List LogLine
   pub state : State
   pub fit : fitted begin front ≡ Some state
-
--- Behind lines that fit the grammar refuses what comes, or the bytes end too early: the fault is in line n.
-pub record IsMalformed (bytes : List ℕ) (n : ℕ) : Type 0 where
-  pub front : List LogLine
-  pub fits : AllFit front
   pub stops : Refuses front bytes ⊎ EndsEarly front bytes
   pub number : n ≡ length front + 1
 
--- Behind lines that fit comes one that the grammar has there and that does not fit: the fault is in line n, of this word.
-pub record IsRejected (bytes : List ℕ) (n : ℕ) (word : LineWord) : Type 0 where
+-- The line of a number is one that the grammar has there, and does not fit. Each line before it fits.
+pub record IsRejected (n : ℕ) (w : LineWord) (bytes : List ℕ) : Type 0 where
   pub front : List LogLine
-  pub fits : AllFit front
   pub line : LogLine
   pub rest : List ℕ
+  pub state : State
+  pub fit : fitted begin front ≡ Some state
   pub begins : Begins (front ++ line ∷ []) rest bytes
-  pub misfit : after fits.state line ≡ None
+  pub misfit : after state line ≡ None
   pub number : n ≡ length front + 1
-  pub names : word ≡ (row_of line).word
+  pub word : w ≡ (row_of line).word
 
-pub data Judgement : Type 0 where
-  AcceptedLog : List Proof → Judgement
-  MalformedAt : ℕ → Judgement
-  RejectedAt : ℕ → LineWord → Judgement
-
-abbrev pub IsJudgement : List ℕ → Judgement → Type 0
-IsJudgement bytes (AcceptedLog log) = IsAcceptedText bytes log
-IsJudgement bytes (MalformedAt n) = IsMalformed bytes n
-IsJudgement bytes (RejectedAt n word) = IsRejected bytes n word
-
--- ---- the law
-
-abbrev pub OneJudgement : Type 0
-OneJudgement = (bytes : List ℕ) (x y : Judgement) → IsJudgement bytes x → IsJudgement bytes y → x ≡ y
+abbrev pub IsFound : Finding → List ℕ → Type 0
+IsFound (Accepted log) bytes = IsAcceptedText log bytes
+IsFound (Malformed n) bytes = IsMalformed n bytes
+IsFound (Rejected n w) bytes = IsRejected n w bytes

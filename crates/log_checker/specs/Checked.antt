@@ -8,7 +8,7 @@ use Rattle.verdicts.specs.declared.verdict.Verdict.{Verdict}
 use Rattle.assurance.specs.Assured.{all_over}
 use Rattle.assurance.specs.Polynomials.{of_verdict}
 use Rattle.proof_log.specs.declared.log.Proof.{Proof}
-use Rattle.log_checker.specs.Answers.{AcceptedLog, MalformedAt, RejectedAt, IsJudgement, IsAcceptedText}
+use Rattle.log_checker.specs.Answers.{Accepted, Malformed, Rejected, IsFound, IsAcceptedText}
 use Rattle.log_checker.specs.declared.checking.Checked.{Checked}
 use Rattle.log_checker.specs.declared.fault.CheckFault.{CheckFault}
 use Rattle.log_checker.specs.declared.fault.CheckFault.TheVariants as fault
@@ -24,11 +24,11 @@ pub record Tells (checked : Checked) (log : List Proof) : Type 0 where
   pub problems : checked.problems ≡ problems_of log
   pub verdicts : checked.verdicts ≡ verdicts_of log
 
--- An answer of bytes that are at hand is their judgement.
+-- An answer of bytes that are at hand is what is found of them.
 abbrev pub Judged : Result Checked CheckFault → List ℕ → Type 0
-Judged (Ok checked) bytes = (log : List Proof) × IsJudgement bytes (AcceptedLog log) × Tells checked log
-Judged (Err (fault.Malformed n)) bytes = IsJudgement bytes (MalformedAt n)
-Judged (Err (fault.Rejected n word)) bytes = IsJudgement bytes (RejectedAt n word)
+Judged (Ok checked) bytes = (log : List Proof) × IsFound (Accepted log) bytes × Tells checked log
+Judged (Err (fault.Malformed n)) bytes = IsFound (Malformed n) bytes
+Judged (Err (fault.Rejected n word)) bytes = IsFound (Rejected n word) bytes
 Judged (Err fault.ReadFault) bytes = ⊥
 Judged (Err fault.TooLarge) bytes = ⊥
 Judged (Err fault.OutOfMemory) bytes = Unit {0}
@@ -66,6 +66,6 @@ AllCovered o (p ∷ ps) = Covers o p.problem p.tree.pieces × AllCovered o ps
 -- The log of these bytes, with what is told of it.
 pub record IsCovered {M : Type 0} (o : Operations M) (checked : Checked) (bytes : List ℕ) : Type 0 where
   pub log : List Proof
-  pub text : IsAcceptedText bytes log
+  pub text : IsAcceptedText log bytes
   pub tells : Tells checked log
   pub covered : AllCovered o log

@@ -1,5 +1,6 @@
 pub mod Fitting
 pub mod Accepted
+pub mod Answers
 pub mod Stores
 pub mod Amounts
 pub mod Trials

@@ -1,12 +1,12 @@
 //! Which logs are accepted, line by line and as a whole.
 #![tactic(auto)]
 
-mod arith;
-mod children;
 mod against;
+mod arith;
 mod check;
 mod checker;
 mod checking;
+mod children;
 mod ending;
 mod fault;
 mod gathering;
@@ -23,4 +23,4 @@ pub use against::check_against;
 pub use check::check_log;
 pub use checking::Checked;
 pub use fault::CheckFault;
-pub use laws::{bytes_have_one_judgement, fitting_is_accepted, pieces_end_in_what_follows, tallies_tell_verdicts};
+pub use laws::{findings_are_unique, fitting_is_accepted, pieces_end_in_what_follows};

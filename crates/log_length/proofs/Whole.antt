@@ -16,7 +16,7 @@ use Rattle.proof_log.specs.declared.log.Proof.{Proof}
 use Rattle.proof_log.specs.Lines.{piece_lines, proof_lines, proofs_lines}
 use Rattle.proof_log.specs.Lengths.{term_most, head_most, verdict_most, lines_all}
 use Rattle.proof_log.specs.Accepted.{IsAcceptedProof, AreAccepted}
-use Rattle.log_checker.proofs.Tally.{tally_tells}
+use Rattle.assurance.proofs.Tally.{tally_tells}
 use Rattle.log_length.specs.Short.{HasFewTerms, HaveFewTerms, PiecesArePaid, ConditionsArePaid, AcceptedIsShort}
 use Rattle.log_length.proofs.Pieces.{all-append, polys-all, pieces-all}
 use Rattle.log_length.proofs.Under.{conditions-cost}

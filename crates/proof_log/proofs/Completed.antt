@@ -1,8 +1,7 @@
 -- What lies before a place begins some log: it is finished by a few lines.
-use Rattle.std.proofs.Common.{◌≡◌, ℕ, ◌+◌, zero, suc, List, [], ◌∷◌, ◌++◌, length, Bool, refl, sym, ◌∙◌, ap, arith, append_assoc, append-nil, subst, length-append, true, false}
+use Rattle.std.proofs.Common.{◌≡◌, ℕ, ◌+◌, zero, suc, List, [], ◌∷◌, ◌++◌, length, Bool, refl, sym, ◌∙◌, ap, arith, append_assoc, append-nil, length-append, true, false}
 use Rattle.proof_steps.specs.declared.piece.LeafStatus.TheVariants as status
 use Rattle.proof_steps.specs.declared.piece.Outcome.TheVariants as outcome
-use Rattle.proof_steps.specs.declared.piece.Piece.{Piece}
 use Rattle.verdicts.specs.declared.verdict.Verdict.TheVariants as verdict
 use Rattle.proof_log.specs.declared.line.LogLine.{LogLine}
 use Rattle.proof_log.specs.declared.line.LogLine.TheVariants as line
@@ -12,7 +11,7 @@ use Rattle.proof_log.specs.declared.place.Part.TheVariants as part
 use Rattle.proof_log.specs.declared.place.Place.{Place}
 use Rattle.proof_log.specs.Grammar.{AreProofs, IsLog, IsFront, IsWhole}
 use Rattle.proof_log.specs.Lines.{proofs_lines, LogWritten}
-use Rattle.proof_log.proofs.Fronts.{Before, begun, Between, Cons, Hyps, Steps, Eqs, Nes, Chained, Behind, proofs_append, logs_append, no_proofs, add_proves, add_vars, first_con, first_node}
+use Rattle.proof_log.proofs.Fronts.{begun, Between, Cons, Hyps, Steps, Nes, Chained, Behind, proofs_append, logs_append, add_proves, add_vars, first_con, first_node}
 use Rattle.proof_log.proofs.Steps.{end_close, end_open, end_system, as_nes, as_chain, conclude, At_part, At}
 
 pub front_of_front : (ls : List LogLine) (l : LogLine) → IsFront (ls ++ l ∷ []) → IsFront ls

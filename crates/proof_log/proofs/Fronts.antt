@@ -1,8 +1,6 @@
 -- The places between lines, and what of a log lies before them.
-use Rattle.std.proofs.Common.{rules, ◌≡◌, ◌≢◌, ℕ, ◌+◌, ◌-◌, ◌<◌, ◌≤◌, zero, suc, List, [], ◌∷◌, ◌++◌, map, length, Bool, true, false, ◌&&◌, ◌||◌, ◌⊎◌, inl, inr, ◌==◌, nat_lt, nat_eq, cond, refl, sym, ◌∙◌, ap, arith, Option, Some, None, append_assoc, append-nil, subst, length-append}
-use Rattle.std.specs.List.{list_any, flat_map}
-use Rattle.std.proofs.lemmas.Bool.{eqb-true}
-use Rattle.std.proofs.lemmas.Bool.Decides.{nat_tests}
+use Rattle.std.proofs.Common.{◌≡◌, ℕ, ◌+◌, ◌-◌, ◌<◌, ◌≤◌, suc, List, [], ◌∷◌, ◌++◌, map, length, Bool, true, false, refl, sym, ◌∙◌, ap, arith, append_assoc, append-nil, subst, length-append}
+use Rattle.std.specs.List.{flat_map}
 use Rattle.std.proofs.lemmas.List.{map-append}
 use Rattle.poly_model.specs.Polynomial.{Polynomial}
 use Rattle.poly_model.specs.declared.limits.TheConstants.{MOST_HYPOTHESES, MOST_CONCLUSIONS}
@@ -10,20 +8,14 @@ use Rattle.poly_model.specs.declared.limits.Reason.{Reason}
 use Rattle.poly_model.specs.declared.vars.VarName.{VarName}
 use Rattle.proof_steps.specs.declared.piece.Piece.{Piece}
 use Rattle.proof_steps.specs.declared.piece.ChainStep.{ChainStep}
-use Rattle.proof_steps.specs.declared.piece.LeafStatus.{LeafStatus}
-use Rattle.proof_steps.specs.declared.piece.LeafStatus.TheVariants as status
-use Rattle.proof_steps.specs.declared.piece.Outcome.{Outcome}
-use Rattle.proof_steps.specs.declared.piece.Outcome.TheVariants as outcome
 use Rattle.proof_steps.specs.declared.problem.Problem.{Problem}
 use Rattle.proof_steps.specs.declared.step.Attempt.{Attempt}
 use Rattle.proof_steps.specs.declared.step.Step.{Step}
-use Rattle.proof_steps.specs.declared.step.Step.TheVariants as step
-use Rattle.verdicts.specs.declared.verdict.Verdict.{Verdict}
 use Rattle.proof_log.specs.declared.line.LogLine.{LogLine}
 use Rattle.proof_log.specs.declared.line.LogLine.TheVariants as line
 use Rattle.proof_log.specs.declared.log.Proof.{Proof}
 use Rattle.proof_log.specs.Grammar.{IsSized, AreProofs, IsLog}
-use Rattle.proof_log.specs.Lines.{step_line, status_line, list_lines, outcome_lines, piece_lines, problem_lines, proof_lines, proofs_lines, log_lines, left_from, StatusWritten, PieceWritten, PiecesWritten, LogWritten}
+use Rattle.proof_log.specs.Lines.{step_line, piece_lines, problem_lines, proof_lines, proofs_lines, PieceWritten, PiecesWritten, LogWritten}
 
 -- ---- what lies before a place, where a log has n proofs and so many are left
 pub record Before (n left : ℕ) : Type 0 where

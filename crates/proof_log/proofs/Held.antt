@@ -1,10 +1,10 @@
 -- Lines that are read one behind the other, and the bytes that are held.
-use Rattle.std.proofs.Common.{◌≡◌, ◌≢◌, ℕ, List, [], ◌∷◌, ◌++◌, refl, sym, ◌∙◌, ap, Option, Some, None, append_assoc, append-nil, subst, true}
+use Rattle.std.proofs.Common.{◌≡◌, ◌≢◌, ℕ, List, [], ◌∷◌, ◌++◌, refl, sym, ◌∙◌, ap, Some, None, append_assoc, append-nil, subst, true}
 use Rattle.poly_model.specs.Names.{are_variables}
 use Rattle.poly_model.specs.declared.vars.VarName.{VarName}
 use Rattle.proof_log.specs.declared.line.LogLine.{LogLine}
 use Rattle.proof_log.specs.declared.place.Place.{Place}
-use Rattle.proof_log.specs.Grammar.{names_behind, IsUnended, IsFront, Begins, Refuses}
+use Rattle.proof_log.specs.Grammar.{names_behind, IsUnended, Begins, Refuses}
 use Rattle.proof_log.specs.Places.{goes, start, run}
 use Rattle.proof_log.specs.Text.{line_text, IsLine, names_after, text_of, AreLines}
 use Rattle.proof_log.proofs.Bytes.{cut}

@@ -7,6 +7,7 @@ pub mod ShortTerms
 pub mod Short
 pub mod Written
 pub mod Whole
+pub mod Owned
 mod Items
 mod Cutting
 mod Spelled

@@ -1,5 +1,5 @@
 -- The machine takes the lines of each log, and each front of them.
-use Rattle.std.proofs.Common.{rules, ◌≡◌, ◌≢◌, ℕ, ◌+◌, ◌-◌, ◌<◌, ◌≤◌, zero, suc, List, [], ◌∷◌, ◌++◌, map, length, Bool, true, false, ◌&&◌, ◌==◌, ◌⊎◌, inl, inr, nat_lt, nat_eq, cond, refl, sym, ◌∙◌, ap, arith, Option, Some, None, append_assoc, append-nil, subst, length-append}
+use Rattle.std.proofs.Common.{◌≡◌, ℕ, ◌+◌, ◌-◌, ◌<◌, ◌≤◌, suc, List, [], ◌∷◌, ◌++◌, map, length, Bool, true, false, ◌⊎◌, inl, inr, nat_lt, nat_eq, refl, sym, ◌∙◌, ap, arith, Option, Some, None, append_assoc, append-nil, subst}
 use Rattle.std.specs.List.{flat_map}
 use Rattle.std.proofs.lemmas.Bool.Decides.{nat_tests}
 use Rattle.poly_model.specs.Polynomial.{Polynomial}
@@ -11,7 +11,7 @@ use Rattle.proof_log.specs.declared.log.Proof.{Proof}
 use Rattle.proof_log.specs.declared.place.Part.{Part}
 use Rattle.proof_log.specs.declared.place.Part.TheVariants as part
 use Rattle.proof_log.specs.declared.place.Place.{Place}
-use Rattle.proof_log.specs.Grammar.{IsSized, AreProofs, IsLog, IsFront, IsWhole}
+use Rattle.proof_log.specs.Grammar.{IsSized, AreProofs, IsFront, IsWhole}
 use Rattle.proof_log.specs.Lines.{piece_lines, problem_lines, proof_lines, proofs_lines, log_lines}
 use Rattle.proof_log.specs.Places.{goes, start, run}
 use Rattle.proof_log.proofs.Completed.{is_front}

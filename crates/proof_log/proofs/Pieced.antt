@@ -1,5 +1,5 @@
 -- A piece of a log that has been fed in part, and the end of a log.
-use Rattle.std.proofs.Common.{◌≡◌, ◌≢◌, ℕ, ◌+◌, ◌≤◌, List, [], ◌∷◌, ◌++◌, length, Bool, true, false, ◌==◌, nat_eq, refl, sym, ◌∙◌, ap, arith, Option, Some, None, Result, Ok, Err, append_assoc, append-nil, subst, length-append, vec_len, inr, inl, ◌⊎◌}
+use Rattle.std.proofs.Common.{◌≡◌, ℕ, ◌+◌, List, [], ◌∷◌, ◌++◌, length, true, false, ◌==◌, nat_eq, refl, sym, ◌∙◌, ap, arith, Some, None, Result, Ok, Err, append_assoc, append-nil, subst, length-append, vec_len, inr, ◌⊎◌}
 use Rattle.std.proofs.lemmas.Bool.{eqb-true}
 use Rattle.proof_log.specs.declared.line.LogLine.{LogLine}
 use Rattle.proof_log.specs.declared.place.Part.{Part}
@@ -8,8 +8,8 @@ use Rattle.proof_log.specs.declared.reader.LogReader.{LogReader}
 use Rattle.proof_log.specs.declared.reader.LogFault.{LogFault}
 use Rattle.proof_log.specs.declared.reader.LogFault.TheVariants as fault
 use Rattle.proof_log.specs.Cuts.{EndsAt}
-use Rattle.proof_log.specs.Feeding.{Fed, FedWith, IsFed, Ended, FedTo, Stopped, Starved, Whole}
-use Rattle.proof_log.specs.Grammar.{Refuses, EndsEarly, IsWhole}
+use Rattle.proof_log.specs.Feeding.{Fed, FedWith, IsFed, Ended, FedTo, Starved, Whole}
+use Rattle.proof_log.specs.Grammar.{Refuses, EndsEarly}
 use Rattle.proof_log.specs.Places.{is_done, number}
 use Rattle.proof_log.specs.Text.{text_of}
 use Rattle.proof_log.proofs.Held.{begins_with, begins_more, refuses_more}

@@ -1,5 +1,5 @@
 -- Plain facts of lists.
-use Rattle.std.proofs.Common.{◌≡◌, ◌≢◌, ℕ, List, [], ◌∷◌, length, Bool, true, false, ◌==◌, refl, sym, ◌∙◌, ap, arith, Result, Err}
+use Rattle.std.proofs.Common.{◌≡◌, ◌≢◌, List, [], ◌∷◌, length, true, false, ◌==◌, refl, sym, ◌∙◌, ap, arith, Result, Err}
 use Rattle.std.proofs.lemmas.Bool.{eqb-true}
 
 pub none_left : {X : Type 0} (xs : List X) → (length xs == 0) ≡ true → xs ≡ []

@@ -1,5 +1,5 @@
 -- Fields, variables and polynomials as items that stand one behind the other.
-use Rattle.std.proofs.Common.{◌≡◌, ◌≢◌, ℕ, ◌≤◌, List, [], ◌∷◌, ◌++◌, length, Bool, true, false, refl, sym, ◌∙◌, ap, subst, append-nil, append_assoc, arith}
+use Rattle.std.proofs.Common.{◌≡◌, ◌≢◌, ℕ, ◌≤◌, List, [], ◌∷◌, ◌++◌, length, Bool, true, false, refl, sym, ◌∙◌, ap, subst, append-nil, arith}
 use Rattle.std.specs.Prelude.{codes}
 use Rattle.poly_model.specs.Names.{are_variables, number}
 use Rattle.poly_model.specs.Polynomial.{Polynomial}
@@ -9,8 +9,8 @@ use Rattle.poly_text.proofs.Factors.{Named}
 use Rattle.poly_text.proofs.Unique.{named}
 use Rattle.proof_log.specs.declared.field.FieldKind.{FieldKind}
 use Rattle.proof_log.specs.Cuts.{Avoids, EndsAt}
-use Rattle.proof_log.specs.Kinds.{IsAt, AreAt, kind_of, AreNames, poly_mark}
-use Rattle.proof_log.specs.Text.{Field, field_text, FitsField, fields_text, FitFields, FitsPoly, FitPolys, more_text, polys_text, names_text}
+use Rattle.proof_log.specs.Kinds.{IsAt, AreAt, AreNames, poly_mark}
+use Rattle.proof_log.specs.Text.{Field, field_text, FitsField, fields_text, FitsPoly, FitPolys, more_text, polys_text, names_text}
 use Rattle.proof_log.proofs.Bytes.{high-blank, poly-semicolon}
 use Rattle.proof_log.proofs.Fields.{field-high, same-field}
 use Rattle.proof_log.proofs.OneLine.{name-high, same-name, same-poly}

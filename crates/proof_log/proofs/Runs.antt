@@ -1,11 +1,7 @@
 -- The lines of a whole log are let through, and so is each front of them.
-use Rattle.std.proofs.Common.{rules, ◌≡◌, ◌≢◌, ℕ, ◌+◌, ◌-◌, ◌<◌, ◌≤◌, zero, suc, List, [], ◌∷◌, ◌++◌, map, length, Bool, true, false, ◌&&◌, ◌==◌, ◌⊎◌, inl, inr, nat_lt, nat_eq, cond, refl, sym, ◌∙◌, ap, arith, Option, Some, None, append_assoc, append-nil, subst, length-append}
+use Rattle.std.proofs.Common.{◌≡◌, ℕ, ◌≤◌, List, [], ◌∷◌, ◌++◌, map, length, Bool, true, false, ◌⊎◌, inl, inr, refl, ◌∙◌, ap, arith, Option, Some, None, append_assoc}
 use Rattle.std.specs.List.{flat_map}
-use Rattle.std.proofs.lemmas.Bool.{eqb-true}
-use Rattle.std.proofs.lemmas.Bool.Decides.{nat_tests}
 use Rattle.poly_model.specs.Polynomial.{Polynomial}
-use Rattle.poly_model.specs.declared.limits.TheConstants.{MOST_HYPOTHESES, MOST_CONCLUSIONS}
-use Rattle.poly_model.specs.declared.vars.VarName.{VarName}
 use Rattle.proof_steps.specs.declared.piece.Piece.{Piece}
 use Rattle.proof_steps.specs.declared.piece.ChainStep.{ChainStep}
 use Rattle.proof_steps.specs.declared.piece.LeafStatus.{LeafStatus}
@@ -16,14 +12,11 @@ use Rattle.proof_steps.specs.declared.step.Step.{Step}
 use Rattle.proof_steps.specs.declared.step.Step.TheVariants as step
 use Rattle.proof_log.specs.declared.line.LogLine.{LogLine}
 use Rattle.proof_log.specs.declared.line.LogLine.TheVariants as line
-use Rattle.proof_log.specs.declared.log.Proof.{Proof}
 use Rattle.proof_log.specs.declared.place.Part.{Part}
 use Rattle.proof_log.specs.declared.place.Part.TheVariants as part
 use Rattle.proof_log.specs.declared.place.Place.{Place}
-use Rattle.proof_log.specs.Grammar.{IsSized, AreProofs, IsLog, IsFront, IsWhole}
-use Rattle.proof_log.specs.Lines.{step_line, status_line, list_lines, outcome_lines, work_lines, piece_lines, problem_lines, proof_lines, proofs_lines, log_lines}
-use Rattle.proof_log.specs.Places.{goes, start, run}
-use Rattle.proof_log.proofs.Steps.{At, At_part, steps_on, stepped}
+use Rattle.proof_log.specs.Lines.{step_line, status_line, list_lines, outcome_lines, work_lines, piece_lines}
+use Rattle.proof_log.specs.Places.{goes, run}
 
 abbrev pub at : Part → ℕ → ℕ → ℕ → ℕ → Bool → Place
 at p n left h c w = record { part = p; proofs = n; left = left; hyps = h; cons = c; whole = w }

@@ -1,23 +1,20 @@
 -- Each line that the machine takes leads from what lies before its place to what lies behind it.
-use Rattle.std.proofs.Common.{rules, ◌≡◌, ◌≢◌, ℕ, ◌+◌, ◌-◌, ◌<◌, ◌≤◌, zero, suc, List, [], ◌∷◌, ◌++◌, map, length, Bool, true, false, ◌&&◌, ◌||◌, ◌⊎◌, inl, inr, ◌==◌, nat_lt, nat_eq, cond, refl, sym, ◌∙◌, ap, arith, Option, Some, None, append_assoc, append-nil, subst, length-append}
-use Rattle.std.specs.List.{list_any, flat_map}
+use Rattle.std.proofs.Common.{◌≡◌, ℕ, ◌+◌, ◌-◌, ◌<◌, suc, List, [], ◌∷◌, ◌++◌, map, length, Bool, true, false, ◌&&◌, ◌||◌, ◌==◌, nat_lt, nat_eq, cond, refl, sym, ◌∙◌, ap, arith, Some, None, append_assoc, append-nil, subst, length-append}
+use Rattle.std.specs.List.{list_any}
 use Rattle.std.proofs.lemmas.Bool.{eqb-true}
 use Rattle.std.proofs.lemmas.Bool.Decides.{nat_tests}
 use Rattle.std.proofs.lemmas.List.{map-append}
 use Rattle.poly_model.specs.Polynomial.{Polynomial}
 use Rattle.poly_model.specs.declared.limits.TheConstants.{MOST_HYPOTHESES, MOST_CONCLUSIONS}
-use Rattle.poly_model.specs.declared.limits.Reason.{Reason}
 use Rattle.proof_steps.specs.declared.piece.Piece.{Piece}
 use Rattle.proof_steps.specs.declared.piece.ChainStep.{ChainStep}
 use Rattle.proof_steps.specs.declared.piece.LeafStatus.{LeafStatus}
 use Rattle.proof_steps.specs.declared.piece.LeafStatus.TheVariants as status
 use Rattle.proof_steps.specs.declared.piece.Outcome.{Outcome}
 use Rattle.proof_steps.specs.declared.piece.Outcome.TheVariants as outcome
-use Rattle.proof_steps.specs.declared.step.Attempt.{Attempt}
 use Rattle.proof_steps.specs.declared.step.Step.{Step}
 use Rattle.proof_steps.specs.declared.step.Step.TheVariants as step
 use Rattle.verdicts.specs.declared.verdict.Verdict.{Verdict}
-use Rattle.proof_log.specs.declared.line.LineWord.{LineWord}
 use Rattle.proof_log.specs.declared.line.LogLine.{LogLine}
 use Rattle.proof_log.specs.declared.line.LogLine.TheVariants as line
 use Rattle.proof_log.specs.declared.log.Proof.{Proof}
@@ -25,10 +22,10 @@ use Rattle.proof_log.specs.declared.place.Part.{Part}
 use Rattle.proof_log.specs.declared.place.Part.TheVariants as part
 use Rattle.proof_log.specs.declared.place.Place.{Place}
 use Rattle.proof_log.specs.Grammar.{IsWhole}
-use Rattle.proof_log.specs.Lines.{step_line, status_line, list_lines, piece_lines, problem_lines, proofs_lines, left_from, StatusWritten, PieceWritten}
-use Rattle.proof_log.specs.Places.{goes, start, stands, number, parts_before, counted, at_part, part_behind, proof_at, hyp_at, con_at, if_whole, if_not_whole}
+use Rattle.proof_log.specs.Lines.{step_line, status_line, proofs_lines, left_from, StatusWritten}
+use Rattle.proof_log.specs.Places.{goes, stands, number, parts_before, counted, at_part, part_behind}
 use Rattle.proof_log.specs.Text.{row_of}
-use Rattle.proof_log.proofs.Fronts.{Before, begun, this, Between, Named, Hyps, Cons, Pieces, steps_tail, Steps, Opens, Eqs, Nes, Chained, Behind, flat_snoc, proofs_append, logs_append, one_log, one_proof, add_proves, add_prove, add_vars, add_hyp, first_con, next_con, first_node, added, add, tail_is, whole_piece}
+use Rattle.proof_log.proofs.Fronts.{begun, Between, Named, Hyps, Cons, steps_tail, Steps, Opens, Eqs, Nes, Chained, Behind, proofs_append, logs_append, one_log, one_proof, add_proves, add_prove, add_vars, add_hyp, first_con, next_con, first_node, added, add, tail_is, whole_piece}
 
 -- ---- pieces
 pub next_node : (n left : ℕ) (path : List Bool) (ls : List LogLine) → Behind n left ls → Steps n left (ls ++ line.Node path ∷ [])

@@ -1,5 +1,5 @@
 -- A word, small fields and a rest, cut behind the word.
-use Rattle.std.proofs.Common.{◌≡◌, ◌≢◌, ℕ, ◌≤◌, List, [], ◌∷◌, ◌++◌, length, map, true, false, cond, refl, sym, ◌∙◌, ap, subst, append-nil, append_assoc}
+use Rattle.std.proofs.Common.{◌≡◌, ℕ, List, [], ◌∷◌, ◌++◌, map, true, cond, refl, sym, ◌∙◌, ap, subst, append-nil}
 use Rattle.std.specs.Prelude.{codes}
 use Rattle.std.specs.Str.{bytes_eq}
 use Rattle.poly_model.specs.declared.vars.VarName.{VarName}
@@ -20,7 +20,7 @@ use Rattle.proof_log.specs.declared.told.VerdictRest.TheVariants as rest
 use Rattle.proof_log.specs.declared.told.VerdictWord.{VerdictWord}
 use Rattle.proof_log.specs.declared.told.VerdictWord.TheVariants as verdict_word
 use Rattle.proof_log.specs.Kinds.{AreAt, kind_of, field_kinds, tail_kind_of, tail_kind, attempt_word_of, attempt_word_text, attempt_kinds, verdict_word_of, verdict_word_text, verdict_fields, verdict_kinds, verdict_rest, rest_kind_of, rest_kind_behind, rest_text, FitsRest}
-use Rattle.proof_log.specs.Text.{Field, Letters, Why, fields_text, FitFields, attempt_word as word_of_attempt, attempt_fields, Tail, Nothing, Poly, Names, Tried, Told, tail_text, FitsTail, verdict_text, FitsVerdict, Row, row, row_of, word_text, line_text, IsLine}
+use Rattle.proof_log.specs.Text.{Field, Letters, Why, fields_text, FitFields, attempt_word as word_of_attempt, attempt_fields, Tail, Nothing, Poly, Names, Tried, Told, tail_text, FitsTail, verdict_text, FitsVerdict, row_of, word_text, line_text, IsLine}
 use Rattle.proof_log.proofs.Bytes.{cut, high, high-blank}
 use Rattle.proof_log.proofs.Fields.{fields-end, placed, same-word, word-high}
 use Rattle.proof_log.proofs.OneLine.{tailed}

@@ -70,7 +70,11 @@ fn kinds_of(word: LineWord) -> &'static [FieldKind]
         LineWord::Drop | LineWord::Tail | LineWord::Split | LineWord::Close => &[FieldKind::Index],
         LineWord::Red => &[FieldKind::Index, FieldKind::Index, FieldKind::Multiplier],
         LineWord::Clash => &[FieldKind::Index, FieldKind::Index],
-        LineWord::Step => &[FieldKind::Conclusion, FieldKind::Index, FieldKind::Multiplier],
+        LineWord::Step => &[
+            FieldKind::Conclusion,
+            FieldKind::Index,
+            FieldKind::Multiplier,
+        ],
         LineWord::Remainder => &[FieldKind::Conclusion],
         LineWord::Unreduced => &[FieldKind::Conclusion, FieldKind::Why, FieldKind::Index],
         LineWord::Open => &[FieldKind::Why],

@@ -127,6 +127,7 @@ impl LogReader {
     fn hold(&mut self, front: &[u8]) -> Result<(), LogFault>
         requires few { self.old.fed + length front.now ≤ 2 ^ 30 }
         requires unended { IsUnended front.now }
+        ensures within { self.new.fed ≤ self.old.fed + length front.now }
         ensures fed { OnOk result (self.new.fed ≡ self.old.fed + length front.now) }
         ensures ok { OnOk result ((bytes : List ℕ) (lines : List LogLine)
             → Fed lines self.old bytes → Fed lines self.new (bytes ++ front.now)) }
@@ -147,6 +148,7 @@ impl LogReader {
         requires { self.old.fed + length piece.now ≤ 2 ^ 30 }
         ensures stays { (f : LogFault) → self.old.fault ≡ Some f
             → (result ≡ Err f) × (self.new.fault ≡ Some f) × (lines.new.items ≡ lines.old.items) }
+        ensures within { self.new.fed ≤ self.old.fed + length piece.now }
         ensures fed { OnOk result (self.new.fed ≡ self.old.fed + length piece.now) }
         ensures lines { (bytes : List ℕ) (front : List LogLine) → IsFed front self.old bytes
             → (added : List LogLine) × (lines.new.items ≡ lines.old.items ++ added)

@@ -9,9 +9,9 @@ ghost use Rattle.proof_log.specs.declared.tail.TailKind.{TailKind};
 ghost use Rattle.proof_log.specs.Text.{FitsPoly, FitPolys, polys_text, names_text, Tail, tail_text, FitsTail};
 ghost use Rattle.proof_log.specs.declared.fault.LineFault.{LineFault};
 
+use crate::attempt::attempt_of;
 use crate::cut::cut;
 use crate::fault::LineFault;
-use crate::attempt::attempt_of;
 use crate::field::{behind_blank, number_of};
 use crate::told::verdict_of;
 use poly_model::{MOST_VARIABLES, OwnedPoly, VarName, Vars};
@@ -158,12 +158,7 @@ pub fn polys_of(alloc: Global, text: &[u8], vars: &Vars) -> Result<Vec<OwnedPoly
 }
 
 /// The rest of a line behind its blank.
-fn tail_behind(
-    alloc: Global,
-    kind: TailKind,
-    behind: &[u8],
-    vars: &Vars,
-) -> Result<Tail, LineFault>
+fn tail_behind(alloc: Global, kind: TailKind, behind: &[u8], vars: &Vars) -> Result<Tail, LineFault>
     ensures reads { IfOk result (λ t. (tail_kind_of t ≡ kind) × FitsTail vars.now t
         × (32 ∷ behind.now ≡ tail_text vars.now t)) }
     ensures refuses { kind ≢ TailKind.Nothing → kind ≢ TailKind.Names
@@ -188,12 +183,7 @@ fn tail_behind(
 }
 
 /// The rest of a line.
-pub fn tail_of(
-    alloc: Global,
-    kind: TailKind,
-    text: &[u8],
-    vars: &Vars,
-) -> Result<Tail, LineFault>
+pub fn tail_of(alloc: Global, kind: TailKind, text: &[u8], vars: &Vars) -> Result<Tail, LineFault>
     ensures reads { IfOk result (λ t. (tail_kind_of t ≡ kind) × FitsTail vars.now t
         × (text.now ≡ tail_text vars.now t)) }
     ensures refuses { IsErrOf result LineFault.Malformed → (t : Tail) → tail_kind_of t ≡ kind

@@ -3,3 +3,6 @@ pub mod Lines
 pub mod Told
 pub mod Written
 pub mod Logs
+pub mod Ready
+pub mod Stack
+pub mod Program

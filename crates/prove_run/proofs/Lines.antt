@@ -17,7 +17,8 @@ use Rattle.proof_steps.specs.declared.step.Step.{Step}
 use Rattle.proof_steps.specs.declared.step.Step.TheVariants as step
 use Rattle.tree_laws.specs.Ranges.{IsEquation, IsCondition, IsPolynomial, IsAttempt, IsStep, IsChainStep, IsStatus, IsOutcome, IsPiece}
 use Rattle.proof_log.specs.Lines.{step_line, status_line, list_lines, outcome_lines, piece_lines}
-use Rattle.proof_log.specs.Text.{FitsField, Index, FitFields, attempt_fields, IsLine, names_after, AreLines}
+use Rattle.proof_log.specs.declared.field.Field.TheVariants.{Index}
+use Rattle.proof_log.specs.Text.{FitsField, FitFields, attempt_fields, IsLine, names_after, AreLines}
 use Rattle.proof_log.specs.declared.line.LogLine.{LogLine}
 use Rattle.proof_log.specs.declared.line.LogLine.TheVariants as line
 

@@ -1,9 +1,10 @@
--- The log of posed problems is accepted.
+-- The log of problems as figures state them is accepted.
 use Rattle.std.proofs.Common.{◌≡◌, ℕ, ◌/◌, ◌<◌, ◌≤◌, List, [], ◌∷◌, map, length, refl, subst, sym, arith}
 use Rattle.std.specs.List.{AllByRecursion}
 use Rattle.std.proofs.lemmas.List.{length-map}
 use Rattle.std.proofs.lemmas.List.Elements.{All-map, recursion_from_All}
 use Rattle.poly_model.specs.declared.limits.TheConstants.{MOST_FUEL}
+use Rattle.proof_steps.specs.Stated.{IsStated}
 use Rattle.proof_steps.specs.declared.problem.Problem.{Problem}
 use Rattle.tree_laws.proofs.Growth.{trees-valid}
 use Rattle.proof_log.specs.Accepted.{IsAcceptedProof, AreAccepted}
@@ -14,33 +15,33 @@ use Rattle.prove_run.specs.Whole.{IsPosed, LogsAreAccepted, LogsAreWhole}
 use Rattle.prove_run.proofs.Posed.{root-pays}
 use Rattle.prove_run.proofs.Written.{accepted-whole}
 
-proof-accepted : (version n : ℕ) (problem : Problem) → n ≤ MOST_PROOFS → 0 < n → IsPosed problem
+proof-accepted : (version n : ℕ) (problem : Problem) → n ≤ MOST_PROOFS → 0 < n → IsStated problem
     → IsAcceptedProof version (MOST_FUEL / n) (proof_of version (MOST_FUEL / n) problem)
 proof-accepted version n problem few some w = record {
-  hyps = w.stated.hyps.parts;
-  cons = w.stated.cons.parts;
-  tree = trees-valid version problem (MOST_FUEL / n) (root-pays problem n w.stated few some);
+  hyps = w.hyps.parts;
+  cons = w.cons.parts;
+  tree = trees-valid version problem (MOST_FUEL / n) (root-pays problem n w few some);
   verdict = refl;
 }
 
-proofs-accepted : (version n : ℕ) (problems : List Problem) → n ≤ MOST_PROOFS → length problems ≤ n → AllByRecursion IsPosed problems
+proofs-accepted : (version n : ℕ) (problems : List Problem) → n ≤ MOST_PROOFS → length problems ≤ n → AllByRecursion IsStated problems
     → AreAccepted version (MOST_FUEL / n) (map (proof_of version (MOST_FUEL / n)) problems)
 unfolding AreAccepted
 proofs-accepted version n [] few all w = tt
 proofs-accepted version n (p ∷ ps) few all w =
     (proof-accepted version n p few (omega (arith, all)) w.0, proofs-accepted version n ps few (omega (arith, all)) w.1)
 
-log-length : (version : ℕ) (problems : List Problem) → length (log_of version problems) ≡ length problems
+pub log-length : (version : ℕ) (problems : List Problem) → length (log_of version problems) ≡ length problems
 log-length version problems = length-map problems (proof_of version (MOST_FUEL / length problems))
 
 pub logs-accepted : LogsAreAccepted
 logs-accepted version problems few w =
     subst (λ n. AreAccepted version (MOST_FUEL / n) (log_of version problems)) (sym (log-length version problems))
-    (proofs-accepted version (length problems) problems few (omega arith) (recursion_from_All IsPosed problems w))
+    (proofs-accepted version (length problems) problems few (omega arith) (recursion_from_All IsStated problems w))
 
 pub logs-whole : LogsAreWhole
 logs-whole version problems some newest few w =
     let same = log-length version problems in
     accepted-whole version (log_of version problems) some newest (omega (arith, same, few))
     (All-map (λ (p : Proof). IsPosed p.problem) (proof_of version (MOST_FUEL / length problems)) problems w)
-    (logs-accepted version problems few w)
+    (logs-accepted version problems few (λ k d lt. (w k d lt).stated))

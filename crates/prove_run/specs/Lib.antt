@@ -1,2 +1,3 @@
 pub mod Logs
 pub mod Whole
+pub mod Ready

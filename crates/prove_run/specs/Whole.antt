@@ -37,11 +37,11 @@ AcceptedIsWhole =
     (version : ℕ) (log : List Proof) → 0 < version → version ≤ VERSION → length log ≤ MOST_PROOFS → All (λ p. IsPosed p.problem) log → IsAccepted version log
     → IsWhole version log
 
--- The log of posed problems is accepted.
+-- The log of problems as figures state them is accepted.
 abbrev pub LogsAreAccepted : Type 0
-LogsAreAccepted = (version : ℕ) (problems : List Problem) → length problems ≤ MOST_PROOFS → All IsPosed problems → IsAccepted version (log_of version problems)
+LogsAreAccepted = (version : ℕ) (problems : List Problem) → length problems ≤ MOST_PROOFS → All IsStated problems → IsAccepted version (log_of version problems)
 
--- And so it is such a log.
+-- And so it can be written, where the variables are a list of variables.
 abbrev pub LogsAreWhole : Type 0
 LogsAreWhole =
     (version : ℕ) (problems : List Problem) → 0 < version → version ≤ VERSION → length problems ≤ MOST_PROOFS → All IsPosed problems

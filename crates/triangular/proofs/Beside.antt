@@ -1,13 +1,12 @@
 -- The equations of a system, seen beside a polynomial that they reduce.
-use Rattle.std.proofs.Common.{◌≡◌, ◌≢◌, ℕ, ◌+◌, ◌-◌, ◌<◌, ◌≤◌, zero, suc, List, [], ◌∷◌, length, map, get_or, refl, sym, ◌∙◌, ap, subst, arith, IsTrue, true, false}
-use Rattle.std.specs.Prelude.{ℤ, Option, Some, None, Result, Ok, Err, IfOk, nat_le}
+use Rattle.std.proofs.Common.{◌≡◌, ◌≢◌, ℕ, ◌-◌, ◌<◌, ◌≤◌, zero, suc, List, [], ◌∷◌, length, map, get_or, refl, sym, ◌∙◌, ap, subst, arith, IsTrue, true, false}
+use Rattle.std.specs.Prelude.{ℤ, Option, Some, None, Result, Ok, Err, IfOk}
 use Rattle.std.proofs.lemmas.Bool.{le-leb}
 use Rattle.std.proofs.lemmas.List.{length-map}
 use Rattle.poly_model.specs.Polynomial.{Polynomial}
 use Rattle.poly_model.specs.Standard.{is_standard}
 use Rattle.poly_model.specs.Reduction.{class_of, reaches, reduction_of}
 use Rattle.poly_model.specs.Bounded.{bounded_reduction}
-use Rattle.poly_model.specs.declared.limits.Limit.{Limit}
 use Rattle.poly_model.specs.declared.limits.Reason.{Reason}
 use Rattle.poly_model.specs.declared.limits.Reason.TheVariants.{Fuel}
 use Rattle.poly_model.specs.declared.limits.TheConstants.{MOST_VARIABLES}

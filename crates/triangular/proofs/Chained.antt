@@ -7,7 +7,6 @@ use Rattle.poly_model.specs.Polynomial.{Polynomial}
 use Rattle.poly_model.specs.Standard.{is_standard}
 use Rattle.poly_model.specs.Reduction.{reduction_of}
 use Rattle.poly_model.specs.Bounded.{bounded_reduction}
-use Rattle.poly_model.specs.Reasons as limits
 use Rattle.poly_model.specs.declared.limits.Limit.{Limit}
 use Rattle.poly_model.specs.declared.limits.Reason.{Reason}
 use Rattle.poly_model.specs.declared.limits.Reason.TheVariants.{Fuel}
@@ -17,7 +16,7 @@ use Rattle.poly_model.proofs.Within.{within-of}
 use Rattle.proof_steps.specs.Numbers.{item}
 use Rattle.proof_steps.specs.Reasons.{limit_met}
 use Rattle.proof_steps.specs.Rules.{reduction_limit}
-use Rattle.proof_steps.specs.Chain.{Due, AllZero, Left, Reduce, due_of, reducing_class, first_of_class, chain_reason, chain_stopped, chain_due, chain_within, chain_of}
+use Rattle.proof_steps.specs.Chain.{Due, Left, Reduce, due_of, reducing_class, first_of_class, chain_reason, chain_stopped, chain_due, chain_within, chain_of}
 use Rattle.proof_steps.specs.declared.piece.ChainStep.{ChainStep}
 use Rattle.proof_steps.specs.declared.piece.LeafStatus.{LeafStatus}
 use Rattle.proof_steps.specs.declared.piece.LeafStatus.TheVariants as status

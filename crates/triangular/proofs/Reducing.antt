@@ -1,19 +1,17 @@
 -- The equation that reduces a polynomial, found by what is known of the equations.
-use Rattle.std.proofs.Common.{◌≡◌, ℕ, ◌+◌, ◌-◌, ◌<◌, ◌≤◌, zero, suc, List, [], ◌∷◌, length, map, get_or, refl, sym, ◌∙◌, ap, arith, Bool, true, false, ◌&&◌, not}
-use Rattle.std.specs.Prelude.{◌==◌, Option, unwrap_or, if◌then◌else◌, nat_le, count_by}
+use Rattle.std.proofs.Common.{◌≡◌, ℕ, ◌-◌, ◌<◌, ◌≤◌, zero, suc, List, [], ◌∷◌, length, map, get_or, refl, sym, ◌∙◌, ap, arith, Bool, true, false, ◌&&◌, not}
+use Rattle.std.specs.Prelude.{◌==◌, unwrap_or, if◌then◌else◌, nat_le, count_by}
 use Rattle.std.proofs.lemmas.Bool.{eqb-true, eq-eqb, and_parts}
-use Rattle.std.proofs.lemmas.List.{length-map}
 use Rattle.poly_model.specs.Polynomial.{Polynomial}
-use Rattle.poly_model.specs.Standard.{is_standard}
 use Rattle.poly_model.specs.Reduction.{class_of, is_constant, degree_at, reaches}
 use Rattle.poly_model.specs.declared.limits.TheConstants.{MOST_VARIABLES}
 use Rattle.poly_model.proofs.Within.{within-of}
 use Rattle.polynomials.proofs.Reading.{class-within}
-use Rattle.proof_steps.specs.Numbers.{item, first}
+use Rattle.proof_steps.specs.Numbers.{item}
 use Rattle.proof_steps.specs.Chain.{reducing_class, first_of_class}
 use Rattle.proof_steps.proofs.Search as search
 use Rattle.proof_steps.proofs.Search.{first_from-found, greatest-attained}
-use Rattle.workbench.specs.Standing.{Tells, AllTell}
+use Rattle.workbench.specs.Standing.{AllTell}
 use Rattle.workbench.specs.declared.bench.Held.{Held}
 use Rattle.workbench.proofs.Tied as tied
 use Rattle.proof_steps.specs.Rules.{is_settled, is_triangular}

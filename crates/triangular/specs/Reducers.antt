@@ -1,5 +1,5 @@
 -- The equation that reduces a polynomial, by what is known of the equations.
-use Rattle.std.specs.Prelude.{◌≡◌, ℕ, ◌-◌, ◌≤◌, ◌<◌, List, [], ◌∷◌, get_or, length, Bool, if◌then◌else◌, ◌==◌, nat_le}
+use Rattle.std.specs.Prelude.{◌≡◌, ℕ, ◌-◌, ◌≤◌, ◌<◌, List, [], ◌∷◌, get_or, length, if◌then◌else◌, ◌==◌, nat_le}
 use Rattle.poly_model.specs.Polynomial.{Polynomial}
 use Rattle.poly_model.specs.Reduction.{class_of, degree_at}
 use Rattle.poly_model.specs.declared.limits.TheConstants.{MOST_VARIABLES}

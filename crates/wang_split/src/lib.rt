@@ -9,6 +9,3 @@ mod working;
 
 pub use expanding::expand;
 pub use proof_steps::Node;
-
-#[cfg(test)]
-mod tests;

@@ -48,6 +48,6 @@ pub returns-in-Err-Malformed : goal.returns-in-Err-Malformed
 returns-in-Err-Malformed c =
     let p = c.loop-rest.invariant.passed in
     let none : length c.loop-rest.rest.now ≡ 0 = eqb-true (length c.loop-rest.rest.now) 0 (sym c.is_empty.ensures ∙ c.loop-rest-test.false) in
-    subst (λ b. IsMalformed b c.in-Err-Malformed.n) (all_passed c.args.bytes.now c.loop-rest.rest.now c.loop-rest.reader c.loop-rest.progress c.loop-rest.seen p none)
+    subst (λ b. IsMalformed c.in-Err-Malformed.n b) (all_passed c.args.bytes.now c.loop-rest.rest.now c.loop-rest.reader c.loop-rest.progress c.loop-rest.seen p none)
     (ends_ill p.front c.loop-rest.progress p.done c.loop-rest.seen c.in-Err-Malformed.n
     (subst (λ f. Finished (Err f) p.front p.done) c.in-Err-Malformed.field-0-is (c.in-Err-Malformed.ensures p.done p.front (as_fed p.front c.loop-rest.reader p.done p.fed))) p.behind)

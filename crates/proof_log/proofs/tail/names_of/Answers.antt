@@ -1,4 +1,4 @@
-use Rattle.std.proofs.Common.{◌≡◌, true, false, sym, ◌∙◌, ap, Ok, Err}
+use Rattle.std.proofs.Common.{◌≡◌, true, false, sym, ◌∙◌, ap, Err}
 use Rattle.poly_model.specs.Names.{are_variables}
 use Rattle.proof_log.proofs.Plain.{same_err}
 use Rattle.proof_log.proofs.Rows.{variables_are_names}

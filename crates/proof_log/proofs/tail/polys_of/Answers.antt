@@ -1,5 +1,4 @@
-use Rattle.std.proofs.Common.{◌≡◌, sym, ◌∙◌, subst, ap, true, Err}
-use Rattle.poly_model.specs.Names.{are_variables}
+use Rattle.std.proofs.Common.{sym, ◌∙◌, subst, ap, true, Err}
 use Rattle.proof_log.proofs.Items.{Going, none_read}
 use Rattle.proof_log.proofs.Plain.{none_left, some_left, same_err}
 use Rattle.proof_log.proofs.Rows.{polys, no_poly_mark, no_poly, one_poly, polys_read}
@@ -10,7 +9,7 @@ loop-behind-init c = record {
   more = λ d e. d;
   going =
       λ valid. subst (Going (polys c.args.vars.now valid) true true c.args.text.now c.args.text.now) (sym c.new-polys.ensures.items)
-          (none_read (polys c.args.vars.now valid) true c.args.text.now);
+      (none_read (polys c.args.vars.now valid) true c.args.text.now);
 }
 
 pub returns-in_default-clause-refuses : goal.returns-in_default-clause-refuses
@@ -37,6 +36,6 @@ loop-behind-preserved c = record {
   more = λ d. some_left c.cut.result.1.now (sym c.is_empty.ensures ∙ c.if-is_empty.false);
   going =
       λ valid. one_poly c.args.vars.now valid c.loop-behind.first c.args.text.now c.loop-behind.rest.now c.loop-behind.polys.items (c.loop-behind.invariant.going valid) c.loop-behind.invariant.more
-          c.in-Some.behind.now c.cut.result.0.now c.cut.result.1.now c.in-Ok.p c.push.new.self.items c.in-Some.ensures c.cut.ensures.parts c.cut.ensures.front c.cut.ensures.behind c.in-Ok.ensures.reads.0 c.in-Ok.ensures.reads.1
-          c.in-Ok-push.ensures.items;
+      c.in-Some.behind.now c.cut.result.0.now c.cut.result.1.now c.in-Ok.p c.push.new.self.items c.in-Some.ensures c.cut.ensures.parts c.cut.ensures.front c.cut.ensures.behind c.in-Ok.ensures.reads.0 c.in-Ok.ensures.reads.1
+      c.in-Ok-push.ensures.items;
 }

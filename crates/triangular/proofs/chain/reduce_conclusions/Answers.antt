@@ -1,5 +1,4 @@
 use Rattle.std.proofs.Common.{◌≡◌, ◌+◌, [], ◌∷◌, ℕ, List, length, map, refl, sym, ◌∙◌, ap, subst, arith, suc}
-use Rattle.std.specs.Prelude.{Some, None}
 use Rattle.poly_model.specs.Polynomial.{Polynomial}
 use Rattle.poly_model.specs.Standard.{polynomial_of}
 use Rattle.term_store.specs.States.{list_at}
@@ -7,7 +6,6 @@ use Rattle.term_store.specs.Changes.{Keeps, given_up}
 use Rattle.term_store.proofs.Making as making
 use Rattle.polynomials.specs.Held.{polynomial_at, slot_of}
 use Rattle.polynomials.proofs.Results as results
-use Rattle.proof_steps.specs.Chain.{chain_of}
 use Rattle.workbench.specs.Standing.{AllTell, held_at, poly_of}
 use Rattle.workbench.proofs.Owning as owning
 use Rattle.triangular.specs.Chains.{Chains, Comes, Ends}

@@ -1,4 +1,4 @@
-use Rattle.std.proofs.Common.{◌≡◌, ◌≢◌, ◌+◌, ◌-◌, ◌<◌, ◌≤◌, suc, [], ◌∷◌, ◌++◌, List, ℕ, length, map, refl, sym, ◌∙◌, ap, subst, arith}
+use Rattle.std.proofs.Common.{◌≡◌, ◌-◌, ◌<◌, [], ◌∷◌, ◌++◌, List, ℕ, length, map, refl, sym, ◌∙◌, ap, subst, arith}
 use Rattle.std.proofs.Common.{rules}
 use Rattle.std.proofs.lemmas.Int.{to_z-of_z}
 use mir.Syntax.{w128}
@@ -13,7 +13,7 @@ use Rattle.pseudo_div.specs.Advances.{Advances}
 use Rattle.workbench.specs.Standing.{held_at}
 use Rattle.workbench.proofs.Owning as owning
 use Rattle.proof_steps.specs.declared.piece.ChainStep.{ChainStep}
-use Rattle.triangular.specs.Chains.{Chains, Comes, Ends}
+use Rattle.triangular.specs.Chains.{Chains, Ends}
 use Rattle.triangular.proofs.Reducing as reducing
 use Rattle.triangular.proofs.Chained as chained
 use Rattle.triangular.proofs.Beside as beside

@@ -1,4 +1,4 @@
-use Rattle.std.proofs.Common.{◌≡◌, map}
+use Rattle.std.proofs.Common.{map}
 use Rattle.term_store.specs.Changes.{Keeps, given_up}
 use Rattle.polynomials.specs.Held.{IsPoly, polynomial_at, slot_of}
 use Rattle.workbench.specs.Standing.{held_at}

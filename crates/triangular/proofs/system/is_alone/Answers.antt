@@ -1,4 +1,4 @@
-use Rattle.std.proofs.Common.{◌≡◌, map, sym, ◌∙◌, ap, not}
+use Rattle.std.proofs.Common.{map, sym, ◌∙◌, ap, not}
 use Rattle.std.specs.Prelude.{◌==◌, count_by, ◌||◌}
 use Rattle.std.specs.List.{list_all}
 use Rattle.poly_model.specs.Reduction.{class_of, is_constant}

@@ -1,4 +1,4 @@
-use Rattle.std.proofs.Common.{◌≡◌, map, sym, ◌∙◌, ap, subst, ◌∷◌, ◌&&◌, not, true, false}
+use Rattle.std.proofs.Common.{map, sym, ◌∙◌, ap, subst, ◌&&◌, not}
 use Rattle.std.specs.List.{list_all}
 use Rattle.poly_model.specs.Standard.{polynomial_of}
 use Rattle.poly_model.specs.Reduction.{class_of, is_constant}

@@ -1,4 +1,4 @@
-use Rattle.std.proofs.Common.{◌≡◌, ◌+◌, length, sym, ◌∙◌, ap, refl, subst, arith, ◌∷◌, [], ◌++◌, length-append, Err}
+use Rattle.std.proofs.Common.{◌+◌, sym, ◌∙◌, ap, refl, subst, arith, ◌∷◌, [], ◌++◌, length-append, Err}
 use Rattle.proof_log.specs.Grammar.{IsUnended}
 use Rattle.proof_log.specs.Text.{names_after, text_of, IsLine}
 use Rattle.proof_log.proofs.Held.{next_text, refuses_line, names_snoc, lines_snoc}

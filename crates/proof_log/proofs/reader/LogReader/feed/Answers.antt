@@ -1,4 +1,4 @@
-use Rattle.std.proofs.Common.{◌≡◌, ◌∷◌, sym, ◌∙◌, ap, arith, length}
+use Rattle.std.proofs.Common.{length}
 use Rattle.proof_log.proofs.Plain.{none_of}
 use Rattle.proof_log.proofs.Pieced.{held_more, line_more, all_fed, no_memory, line_fault, stopped_still, held_to_lf, count_more}
 use Rattle.proof_log.proofs.reader.LogReader.feed.Goals as goal

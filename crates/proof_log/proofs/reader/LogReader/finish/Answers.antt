@@ -1,4 +1,4 @@
-use Rattle.std.proofs.Common.{sym, ◌∙◌, inl, inr}
+use Rattle.std.proofs.Common.{sym, ◌∙◌}
 use Rattle.proof_log.proofs.Pieced.{ends_whole, ends_held, ends_early}
 use Rattle.proof_log.proofs.reader.LogReader.finish.Goals as goal
 
