@@ -121,11 +121,12 @@ within front b y bytes s g = elim (begins_two front b (rest_of front bytes s) y 
 fitted_append : (s t : State) (a b : List LogLine) → fitted s a ≡ Some t → fitted s (a ++ b) ≡ fitted t b
 unfolding fitted
 fitted_append s t [] b e = ap (λ (o : Option State). elim o [ None ↦ fitted s b | Some u ↦ fitted u b ]) e
-fitted_append s t (l ∷ a) b e = by (after s l) e where
-  by : (o : Option State) → ◌≡◌ {A = Option State} (elim o [ None ↦ None | Some u ↦ fitted u a ]) (Some t)
+fitted_append s t (l ∷ a) b e = by (after s l) (λ u. fitted_append u t a b) e where
+  by : (o : Option State) → ((u : State) → fitted u a ≡ Some t → fitted u (a ++ b) ≡ fitted t b)
+      → ◌≡◌ {A = Option State} (elim o [ None ↦ None | Some u ↦ fitted u a ]) (Some t)
       → ◌≡◌ {A = Option State} (elim o [ None ↦ None | Some u ↦ fitted u (a ++ b) ]) (fitted t b)
-  by None h = cc
-  by (Some u) h = fitted_append u t a b h
+  by None next h = cc
+  by (Some u) next h = next u h
 
 misfit_within : (a more : List LogLine) (l : LogLine) (s t : State) (ls : List LogLine) → fitted begin a ≡ Some s → after s l ≡ None → ls ≡ (a ++ l ∷ []) ++ more → fitted begin ls ≡ Some t → ⊥
 unfolding fitted
