@@ -1,6 +1,6 @@
 -- What an accepted log assures.
-use Rattle.std.proofs.Common.{◌≡◌, ℕ, suc, ◌/◌, ◌<◌, ◌≤◌, List, [], ◌∷◌, ◌++◌, length, map, refl, sym, ◌∙◌, ap, subst, Result, Ok, Err, IfOk, IsTrue}
-use Rattle.std.specs.List.{list_all, flat_map}
+use Rattle.std.proofs.Common.{◌≡◌, ℕ, suc, ◌/◌, List, [], ◌∷◌, ◌++◌, length, map, refl, sym, ap, subst, Result, Ok, Err, IfOk, IsTrue}
+use Rattle.std.specs.List.{flat_map}
 use Rattle.std.proofs.lemmas.Bool.{and_from}
 use Rattle.poly_model.specs.Domain.{Operations}
 use Rattle.poly_model.specs.Polynomial.{Polynomial, is_over}
@@ -8,21 +8,19 @@ use Rattle.poly_model.specs.declared.limits.TheConstants.{MOST_FUEL}
 use Rattle.poly_model.specs.declared.vars.VarName.{VarName}
 use Rattle.proof_steps.specs.declared.problem.Problem.{Problem}
 use Rattle.verdicts.specs.Claims.{Claims}
-use Rattle.verdicts.specs.declared.verdict.Verdict.{Verdict}
 use Rattle.assurance.specs.Assured.{TreesCover, VerdictsHold, TreesKeepVariables, all_over}
 use Rattle.assurance.specs.Polynomials.{of_verdict}
 use Rattle.proof_log.specs.Accepted.{IsAcceptedProof, AreAccepted}
 use Rattle.proof_log.specs.Grammar.{names_behind}
-use Rattle.proof_log.specs.Lines.{piece_lines, problem_lines, proof_lines, proofs_lines, log_lines}
-use Rattle.proof_log.specs.Text.{names_after, AreLines}
+use Rattle.proof_log.specs.Lines.{piece_lines, problem_lines, proof_lines, proofs_lines}
+use Rattle.proof_log.specs.Text.{AreLines}
 use Rattle.proof_log.specs.declared.line.LogLine.{LogLine}
 use Rattle.proof_log.specs.declared.line.LogLine.TheVariants as line
 use Rattle.proof_log.specs.declared.log.Proof.{Proof}
 use Rattle.log_checker.specs.Answers.{IsAcceptedText}
-use Rattle.log_checker.specs.Checked.{problems_of, verdicts_of, Judged, FileJudged, IsAssured, AreAssured, AllCovered, IsCovered}
+use Rattle.log_checker.specs.Checked.{problems_of, verdicts_of, Judged, IsAssured, AreAssured, AllCovered, IsCovered}
 use Rattle.log_checker.specs.declared.checking.Checked.{Checked}
 use Rattle.log_checker.specs.declared.fault.CheckFault.{CheckFault}
-use Rattle.log_checker.specs.declared.fault.CheckFault.TheVariants as fault
 use Rattle.log_checker.proofs.Exact.{all_lines}
 use Rattle.log_checker.proofs.Passes.{lines_front}
 

@@ -1,11 +1,11 @@
 -- Lines that are checked one behind the other, and the pieces of a log.
-use Rattle.std.proofs.Common.{rules, ◌≡◌, ℕ, zero, suc, ◌+◌, ◌-◌, ◌^◌, ◌<◌, ◌≤◌, List, [], ◌∷◌, ◌++◌, length, take, drop, reverse, Bool, true, false, ◌==◌, refl, sym, ◌∙◌, ap, arith, Option, Some, None, Result, Ok, Err, append_assoc, append-nil, subst, length-append, inl, inr, ◌⊎◌}
+use Rattle.std.proofs.Common.{◌≡◌, ℕ, ◌+◌, ◌^◌, ◌<◌, ◌≤◌, List, [], ◌∷◌, ◌++◌, length, take, drop, reverse, refl, sym, ◌∙◌, ap, arith, Some, None, Result, Ok, Err, append_assoc, append-nil, subst, length-append, inl, ◌⊎◌}
 use Rattle.std.proofs.lemmas.List.{reverse-append}
 use Rattle.std.proofs.lemmas.Grind.{common_steps}
 use Rattle.poly_model.specs.declared.vars.VarName.{VarName}
-use Rattle.proof_log.specs.Feeding.{Fed, FedWith, IsFed, FedTo, Stopped, Starved, Whole}
+use Rattle.proof_log.specs.Feeding.{Fed, FedWith, IsFed, FedTo, Stopped}
 use Rattle.proof_log.specs.Grammar.{Begins, Refuses, EndsEarly, names_behind}
-use Rattle.proof_log.specs.Text.{row_of, line_text, names_after, text_of, AreLines}
+use Rattle.proof_log.specs.Text.{line_text, names_after, text_of, AreLines}
 use Rattle.proof_log.specs.declared.line.LogLine.{LogLine}
 use Rattle.proof_log.specs.declared.line.LineWord.{LineWord}
 use Rattle.proof_log.specs.declared.reader.LogReader.{LogReader}
@@ -13,15 +13,14 @@ use Rattle.proof_log.specs.declared.reader.LogFault.{LogFault}
 use Rattle.proof_log.specs.declared.reader.LogFault.TheVariants as log
 use Rattle.proof_log.proofs.Held.{begins_more, refuses_more}
 use Rattle.proof_log.proofs.Logs.{front_is}
-use Rattle.log_checker.specs.Answers.{IsAcceptedText, IsMalformed, IsRejected}
+use Rattle.log_checker.specs.Answers.{IsMalformed, IsRejected}
 use Rattle.log_checker.specs.Checked.{Judged}
 use Rattle.log_checker.specs.Checkers.{state_of}
 use Rattle.log_checker.specs.Fitting.{State, begin, after, fitted}
 use Rattle.log_checker.specs.Gathering.{Gathered, nothing, gathered, gathered_after, gathered_of}
-use Rattle.log_checker.specs.Pieces.{IsNew, Went, Goes, Misfits, LinesJudged, IsBehind, PieceDone, fed_of, is_memory}
+use Rattle.log_checker.specs.Pieces.{IsNew, Went, Goes, Misfits, IsBehind, PieceDone}
 use Rattle.log_checker.specs.declared.checking.Progress.{Progress}
 use Rattle.log_checker.specs.declared.fault.CheckFault.{CheckFault}
-use Rattle.log_checker.specs.declared.fault.CheckFault.TheVariants as fault
 use Rattle.log_checker.proofs.Running.{fitted_append, fitted_snoc}
 
 -- ---- what lines tell

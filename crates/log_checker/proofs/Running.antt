@@ -1,5 +1,5 @@
 -- Lines that fit one behind the other.
-use Rattle.std.proofs.Common.{◌≡◌, ℕ, List, [], ◌∷◌, ◌++◌, ap, ◌∙◌, Option, Some, None}
+use Rattle.std.proofs.Common.{◌≡◌, List, [], ◌∷◌, ◌++◌, ap, ◌∙◌, Some, None}
 use Rattle.proof_log.specs.declared.line.LogLine.{LogLine}
 use Rattle.log_checker.specs.Fitting.{State, after, fitted}
 use Rattle.log_checker.proofs.Fits.{fitted_from}

@@ -1,10 +1,9 @@
 -- What the lines of a log tell: its problems and its verdicts.
-use Rattle.std.proofs.Common.{◌≡◌, ℕ, suc, List, [], ◌∷◌, ◌++◌, map, length, refl, sym, ◌∙◌, ap, append_assoc, append-nil, subst}
+use Rattle.std.proofs.Common.{◌≡◌, ℕ, suc, List, [], ◌∷◌, ◌++◌, map, refl, sym, ◌∙◌, ap, append_assoc, append-nil, subst}
 use Rattle.std.specs.List.{flat_map}
 use Rattle.poly_model.specs.Polynomial.{Polynomial}
 use Rattle.poly_model.specs.declared.vars.VarName.{VarName}
 use Rattle.proof_steps.specs.declared.piece.Piece.{Piece}
-use Rattle.proof_steps.specs.declared.piece.ChainStep.{ChainStep}
 use Rattle.proof_steps.specs.declared.piece.LeafStatus.{LeafStatus}
 use Rattle.proof_steps.specs.declared.piece.LeafStatus.TheVariants as status
 use Rattle.proof_steps.specs.declared.piece.Outcome.{Outcome}
@@ -13,7 +12,7 @@ use Rattle.proof_steps.specs.declared.problem.Problem.{Problem}
 use Rattle.proof_steps.specs.declared.step.Step.{Step}
 use Rattle.proof_steps.specs.declared.step.Step.TheVariants as step
 use Rattle.verdicts.specs.declared.verdict.Verdict.{Verdict}
-use Rattle.proof_log.specs.Lines.{step_line, status_line, list_lines, outcome_lines, work_lines, piece_lines, problem_lines, proof_lines, proofs_lines, log_lines}
+use Rattle.proof_log.specs.Lines.{step_line, status_line, list_lines, outcome_lines, piece_lines, problem_lines, proof_lines, proofs_lines, log_lines}
 use Rattle.proof_log.specs.declared.line.LogLine.{LogLine}
 use Rattle.proof_log.specs.declared.line.LogLine.TheVariants as line
 use Rattle.proof_log.specs.declared.log.Proof.{Proof}
@@ -27,7 +26,6 @@ use Rattle.log_checker.specs.Answers.{IsAcceptedText}
 use Rattle.log_checker.specs.Checked.{Tells}
 use Rattle.log_checker.specs.Checkers.{state_of}
 use Rattle.log_checker.specs.Fitting.{begin, fitted}
-use Rattle.log_checker.specs.Gathering.{gathered_of}
 use Rattle.log_checker.specs.Pieces.{IsBehind}
 use Rattle.log_checker.specs.declared.checking.Checked.{Checked}
 use Rattle.log_checker.specs.declared.checking.Progress.{Progress}

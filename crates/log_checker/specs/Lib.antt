@@ -5,7 +5,6 @@ pub mod Stores
 pub mod Amounts
 pub mod Trials
 pub mod Views
-pub mod Answers
 pub mod Gathering
 pub mod Checkers
 pub mod Checked

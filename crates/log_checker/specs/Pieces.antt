@@ -1,5 +1,5 @@
 -- What is known behind a piece of a log.
-use Rattle.std.specs.Prelude.{◌≡◌, ℕ, ◌+◌, List, [], ◌∷◌, ◌++◌, length, Bool, true, false, Option, Some, None, Result, Ok, Err}
+use Rattle.std.specs.Prelude.{◌≡◌, ℕ, List, ◌∷◌, ◌++◌, length, Bool, true, false, Option, Some, None, Result, Ok, Err}
 use Rattle.proof_log.specs.Feeding.{Fed}
 use Rattle.proof_log.specs.Text.{row_of}
 use Rattle.proof_log.specs.declared.line.LogLine.{LogLine}

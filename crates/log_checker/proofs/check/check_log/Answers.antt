@@ -1,4 +1,4 @@
-use Rattle.std.proofs.Common.{◌≡◌, ◌∙◌, subst, IfOk}
+use Rattle.std.proofs.Common.{◌∙◌, subst, IfOk}
 use Rattle.log_checker.specs.Checked.{IsCovered}
 use Rattle.log_checker.proofs.Assured.{are_assured, is_covered}
 use Rattle.log_checker.proofs.check.check_log.Goals as goal

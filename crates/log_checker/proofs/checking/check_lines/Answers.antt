@@ -1,4 +1,4 @@
-use Rattle.std.proofs.Common.{◌≡◌, ◌+◌, length, ap, arith, subst, length-append, ◌∷◌, []}
+use Rattle.std.proofs.Common.{length, ap, arith, subst, length-append, ◌∷◌, []}
 use Rattle.log_checker.specs.Pieces.{Goes}
 use Rattle.log_checker.proofs.Passes.{none_checked, one_checked}
 use Rattle.log_checker.proofs.checking.check_lines.Goals as goal
