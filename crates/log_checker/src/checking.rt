@@ -93,7 +93,7 @@ fn number(seen: usize, more: usize) -> u32
 }
 
 /// How a reader stopped, if it did.
-#[derive(Clone, Copy, Debug, PartialEq, Eq)]
+#[derive(Clone, Copy, Debug)]
 pub enum Stop {
     No,
     At(u32),
