@@ -25,13 +25,15 @@ use Rattle.log_checker.proofs.Exact.{all_lines}
 use Rattle.log_checker.proofs.Passes.{lines_front}
 
 -- ---- the problem of a proof is over its variables
-over_hyps : (names : List VarName) (ps : List Polynomial) (more : List LogLine) → AreLines names (map line.Hyp ps ++ more) → IsTrue (all_over (length names) ps) × AreLines names more
+over_hyps : (names : List VarName) (ps : List Polynomial) (more : List LogLine) → AreLines names (map line.Hyp ps ++ more) → IsTrue
+    (all_over (length names) ps) × AreLines names more
 unfolding AreLines
 over_hyps names [] more h = (refl, h)
 over_hyps names (p ∷ ps) more h =
     let r = over_hyps names ps more h.1 in (and_from (is_over (length names) p) (all_over (length names) ps) h.0.1.1 r.0, r.1)
 
-over_cons : (names : List VarName) (ps : List Polynomial) (more : List LogLine) → AreLines names (map line.Con ps ++ more) → IsTrue (all_over (length names) ps) × AreLines names more
+over_cons : (names : List VarName) (ps : List Polynomial) (more : List LogLine) → AreLines names (map line.Con ps ++ more) → IsTrue
+    (all_over (length names) ps) × AreLines names more
 unfolding AreLines
 over_cons names [] more h = (refl, h)
 over_cons names (p ∷ ps) more h =
@@ -57,7 +59,8 @@ proof_over names k p h = problem_over names p.problem (flat_map piece_lines p.tr
 
 -- ---- each proof
 module _ {M : Type 0} (o : Operations M) where
-  assured : VerdictsHold o → TreesKeepVariables → (version fuel : ℕ) (p : Proof) → IsAcceptedProof version fuel p → IsOver p.problem → IsAssured o p.problem p.verdict
+  assured : VerdictsHold o → TreesKeepVariables → (version fuel : ℕ) (p : Proof) → IsAcceptedProof version fuel p → IsOver p.problem
+      → IsAssured o p.problem p.verdict
   assured hold keep version fuel p a over = record {
     claim = subst (Claims o p.problem) (sym a.verdict) (hold version p.problem fuel p.tree.pieces a.tree);
     hyps = over.hyps;
@@ -66,7 +69,8 @@ module _ {M : Type 0} (o : Operations M) where
         (keep version (length p.problem.vars) p.problem fuel p.tree.pieces over.hyps over.cons a.tree).1;
   }
 
-  all_assured : VerdictsHold o → TreesKeepVariables → (version fuel k : ℕ) (names : List VarName) (log : List Proof) → AreAccepted version fuel log → AreLines names (proofs_lines k log)
+  all_assured : VerdictsHold o → TreesKeepVariables → (version fuel k : ℕ) (names : List VarName) (log : List Proof) → AreAccepted version fuel log
+      → AreLines names (proofs_lines k log)
       → AreAssured o (problems_of log) (verdicts_of log)
   unfolding AreAccepted proofs_lines
   all_assured hold keep version fuel k names [] a h = tt
@@ -81,16 +85,25 @@ module _ {M : Type 0} (o : Operations M) where
   all_covered cover version fuel (p ∷ ps) a = (cover version p.problem fuel p.tree.pieces a.0.tree, all_covered cover version fuel ps a.1)
 
   -- ---- the log
-  log_assured : VerdictsHold o → TreesKeepVariables → (bytes : List ℕ) (log : List Proof) → IsAcceptedText log bytes → AreAssured o (problems_of log) (verdicts_of log)
+  log_assured : VerdictsHold o → TreesKeepVariables → (bytes : List ℕ) (log : List Proof) → IsAcceptedText log bytes → AreAssured o (problems_of log)
+      (verdicts_of log)
   unfolding AreLines
   log_assured hold keep bytes log t =
       all_assured hold keep t.version (MOST_FUEL / length log) 1 [] log t.accepted (lines_front [] (proofs_lines 1 log) (line.End ∷ []) t.lines.1.1)
 
-  pub are_assured : VerdictsHold o → TreesKeepVariables → (x : Result Checked CheckFault) (bytes : List ℕ) → Judged x bytes → IfOk x (λ checked. AreAssured o checked.problems checked.verdicts)
+  pub are_assured : VerdictsHold o → TreesKeepVariables → (x : Result Checked CheckFault) (bytes : List ℕ) → Judged x bytes → IfOk x
+      (λ checked. AreAssured o checked.problems checked.verdicts)
   are_assured hold keep (Ok checked) bytes j =
-      subst (λ vs. AreAssured o checked.problems vs) (sym j.2.verdicts) (subst (λ ps. AreAssured o ps (verdicts_of j.0)) (sym j.2.problems) (log_assured hold keep bytes j.0 j.1))
+      subst (λ vs. AreAssured o checked.problems vs) (sym j.2.verdicts)
+      (subst (λ ps. AreAssured o ps (verdicts_of j.0)) (sym j.2.problems) (log_assured hold keep bytes j.0 j.1))
   are_assured hold keep (Err f) bytes j = tt
 
   pub is_covered : TreesCover o → (x : Result Checked CheckFault) (bytes : List ℕ) → Judged x bytes → IfOk x (λ checked. IsCovered o checked bytes)
-  is_covered cover (Ok checked) bytes j = record { log = j.0; text = j.1; tells = j.2; covered = all_covered cover j.1.version (MOST_FUEL / length j.0) j.0 j.1.accepted }
+  is_covered cover (Ok checked) bytes j = record {
+    log = j.0;
+    text = j.1;
+    tells = j.2;
+    covered = all_covered cover j.1.version
+        (MOST_FUEL / length j.0) j.0 j.1.accepted;
+  }
   is_covered cover (Err f) bytes j = tt

@@ -60,7 +60,8 @@ none_checked p ls left e = record { front = []; parts = sym (twice ls) ∙ ap re
 last_first : (left rest : List LogLine) (l : LogLine) → left ≡ rest ++ l ∷ [] → reverse left ≡ l ∷ reverse rest
 last_first left rest l e = ap reverse e ∙ reverse-append rest (l ∷ [])
 
-pub one_checked : (p : Progress) (ls left rest : List LogLine) (q r : Progress) (n : ℕ) (l : LogLine) → Sofar p ls left q n → left ≡ rest ++ l ∷ [] → Goes q l (Some r) → Sofar p ls rest r (n + 1)
+pub one_checked : (p : Progress) (ls left rest : List LogLine) (q r : Progress) (n : ℕ) (l : LogLine) → Sofar p ls left q n → left ≡ rest ++ l ∷ []
+    → Goes q l (Some r) → Sofar p ls rest r (n + 1)
 one_checked p ls left rest q r n l f e g = record {
   front = f.front ++ l ∷ [];
   parts = f.parts ∙ ap (λ t. f.front ++ t) (last_first left rest l e) ∙ sym (append_assoc f.front (l ∷ []) (reverse rest));
@@ -78,12 +79,20 @@ text_append : (names : List VarName) (a b : List LogLine) → text_of names (a +
 unfolding text_of names_behind
 text_append names [] b = refl
 text_append names (l ∷ a) b =
-    ap (λ t. line_text names l ++ 10 ∷ t) (text_append (names_after names l) a b) ∙ sym (append_assoc (line_text names l) (10 ∷ text_of (names_after names l) a) (text_of (names_behind (names_after names l) a) b))
+    ap (λ t. line_text names l ++ 10 ∷ t) (text_append (names_after names l) a b) ∙ sym
+    (append_assoc (line_text names l) (10 ∷ text_of (names_after names l) a) (text_of (names_behind (names_after names l) a) b))
 
 begins_front : (a b : List LogLine) (rest bytes : List ℕ) → Begins (a ++ b) rest bytes → Begins a (text_of (names_behind [] a) b ++ rest) bytes
 begins_front a b rest bytes h = record {
   lines = lines_front [] a b h.lines;
-  grammar = record { version = h.grammar.version; log = h.grammar.log; fits = h.grammar.fits; more = b ++ h.grammar.more; begins = h.grammar.begins ∙ append_assoc a b h.grammar.more };
+  grammar = record {
+    version = h.grammar.version;
+    log = h.grammar.log;
+    fits = h.grammar.fits;
+    more = b ++ h.grammar.more;
+    begins = h.grammar.begins
+        ∙ append_assoc a b h.grammar.more;
+  };
   text = h.text ∙ ap (λ t. t ++ rest) (text_append [] a b) ∙ append_assoc (text_of [] a) (text_of (names_behind [] a) b) rest;
 }
 
@@ -98,13 +107,15 @@ few_lines : (a : List LogLine) (rest bytes : List ℕ) → Begins a rest bytes �
 few_lines a rest bytes h = let t = text_long [] a in let e = ap length h.text in let l = length-append (text_of [] a) rest in omega (arith, t, e, l)
 
 -- what fed bytes begin with
-fed_begins : (x : Result (Unit {0}) LogFault) (front : List LogLine) (r : LogReader) (bytes : List ℕ) → FedTo x front r bytes → (rest : List ℕ) × Begins front rest bytes
+fed_begins : (x : Result (Unit {0}) LogFault) (front : List LogLine) (r : LogReader) (bytes : List ℕ) → FedTo x front r bytes →
+    (rest : List ℕ) × Begins front rest bytes
 fed_begins (Ok u) front r bytes f = (r.held.items, record { lines = f.lines; grammar = front_is r.place front f.place; text = f.text })
 fed_begins (Err (log.Malformed n)) front r bytes f = let s : Stopped front bytes n = subst (λ o. FedWith o front r bytes) f.0 f.1 in (_, s.refuses.begins)
 fed_begins (Err log.OutOfMemory) front r bytes f = subst (λ o. FedWith o front r bytes) f.0 f.1
 
 -- ---- a line that does not fit
-reject : (front ls : List LogLine) (s : State) (i n : ℕ) (w : LineWord) (rest bytes : List ℕ) → Begins (front ++ ls) rest bytes → fitted begin front ≡ Some s → Misfits s ls i w → n ≡ length front + i + 1 → IsRejected n w bytes
+reject : (front ls : List LogLine) (s : State) (i n : ℕ) (w : LineWord) (rest bytes : List ℕ) → Begins (front ++ ls) rest bytes
+    → fitted begin front ≡ Some s → Misfits s ls i w → n ≡ length front + i + 1 → IsRejected n w bytes
 reject front ls s i n w rest bytes b fit m e =
     let regroup : front ++ ls ≡ ((front ++ m.front) ++ m.line ∷ []) ++ m.rest =
     ap (λ t. front ++ t) m.parts ∙ sym (append_assoc front m.front (m.line ∷ m.rest)) ∙ sym (append_assoc (front ++ m.front) (m.line ∷ []) m.rest) in
@@ -123,7 +134,8 @@ reject front ls s i n w rest bytes b fit m e =
 misfit_inside : (s : State) (ls : List LogLine) (i : ℕ) (w : LineWord) → Misfits s ls i w → i < length ls
 misfit_inside s ls i w m = let a = ap length m.parts in let b = length-append m.front (m.line ∷ m.rest) in let c = m.place in omega (arith, a, b, c)
 
-pub piece_rejected : (x : Result (Unit {0}) LogFault) (front added : List LogLine) (r : LogReader) (p : Progress) (bytes piece : List ℕ) (seen i n : ℕ) (w : LineWord)
+pub piece_rejected : (x : Result (Unit {0}) LogFault) (front added : List LogLine) (r : LogReader) (p : Progress) (bytes piece : List ℕ) (seen i n : ℕ)
+    (w : LineWord)
     → length bytes + length piece ≤ 2 ^ 30 → FedTo x (front ++ added) r (bytes ++ piece) → IsBehind front p seen → Misfits (state_of p.checker) added i w
     → (seen + i + 1 < 2 ^ 32 → n ≡ seen + i + 1) → (more : List ℕ) → IsRejected n w (bytes ++ (piece ++ more))
 piece_rejected x front added r p bytes piece seen i n w small f h m e more =
@@ -135,10 +147,12 @@ piece_rejected x front added r p bytes piece seen i n w small f h m e more =
     let count = h.count in
     let is = e (omega (arith, small, few, all, both, inside, count)) in
     subst (λ t. IsRejected n w t) (append_assoc bytes piece more)
-    (reject front added (state_of p.checker) i n w (b.0 ++ more) ((bytes ++ piece) ++ more) (begins_more (front ++ added) b.0 (bytes ++ piece) more b.1) h.fit m (is ∙ ap (λ k. k + i + 1) count))
+    (reject front added (state_of p.checker) i n w (b.0 ++ more) ((bytes ++ piece) ++ more)
+    (begins_more (front ++ added) b.0 (bytes ++ piece) more b.1) h.fit m (is ∙ ap (λ k. k + i + 1) count))
 
 pub piece_malformed : (front added : List LogLine) (r : LogReader) (p q : Progress) (bytes piece : List ℕ) (seen n : ℕ)
-    → FedTo (Err (log.Malformed n)) (front ++ added) r (bytes ++ piece) → IsBehind front p seen → Went p added q → (more : List ℕ) → IsMalformed n (bytes ++ (piece ++ more))
+    → FedTo (Err (log.Malformed n)) (front ++ added) r (bytes ++ piece) → IsBehind front p seen → Went p added q → (more : List ℕ) → IsMalformed n
+    (bytes ++ (piece ++ more))
 piece_malformed front added r p q bytes piece seen n f h w more =
     let s : Stopped (front ++ added) (bytes ++ piece) n = subst (λ o. FedWith o (front ++ added) r (bytes ++ piece)) f.0 f.1 in
     record {
@@ -190,7 +204,8 @@ passed_more bytes rest piece after r q c d seen all p e b = record {
   behind = b.2;
 }
 
-pub passed_fault : (bytes rest piece after : List ℕ) (r : LogReader) (c : Progress) (seen : ℕ) (f : CheckFault) (p : Passed bytes rest r c seen) → rest ≡ piece ++ after
+pub passed_fault : (bytes rest piece after : List ℕ) (r : LogReader) (c : Progress) (seen : ℕ) (f : CheckFault) (p : Passed bytes rest r c seen)
+    → rest ≡ piece ++ after
     → ((more : List ℕ) → Judged (Err f) (p.done ++ (piece ++ more))) → Judged (Err f) bytes
 passed_fault bytes rest piece after r c seen f p e h = subst (λ t. Judged (Err f) t) (sym (p.parts ∙ ap (λ t. p.done ++ t) e)) (h after)
 
@@ -209,7 +224,9 @@ all_passed bytes [] r p seen s e = sym (s.parts ∙ append-nil s.done)
 all_passed bytes (b ∷ rest) r p seen s e = absurd (omega (arith, e))
 
 pub both_parts : (n : ℕ) (t front behind : List ℕ) → front ≡ take n t → behind ≡ drop n t → t ≡ front ++ behind
-both_parts n t front behind e f = let h : take n t ++ drop n t ≡ t = grind (arith, common_steps) in sym h ∙ ap (λ x. x ++ drop n t) (sym e) ∙ ap (λ x. front ++ x) (sym f)
+both_parts n t front behind e f = let h : take n t ++ drop n t ≡ t = grind (arith, common_steps) in sym h ∙ ap (λ x. x ++ drop n t) (sym e) ∙ ap
+    (λ x. front ++ x) (sym f)
 
-pub ends_ill : (front : List LogLine) (p : Progress) (bytes : List ℕ) (seen n : ℕ) → (Refuses front bytes ⊎ EndsEarly front bytes) × (n ≡ length front + 1) → IsBehind front p seen → IsMalformed n bytes
+pub ends_ill : (front : List LogLine) (p : Progress) (bytes : List ℕ) (seen n : ℕ) → (Refuses front bytes ⊎ EndsEarly front bytes) × (n ≡ length front + 1)
+    → IsBehind front p seen → IsMalformed n bytes
 ends_ill front p bytes seen n e h = record { front = front; state = state_of p.checker; fit = h.fit; stops = e.0; number = e.1 }

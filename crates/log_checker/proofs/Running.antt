@@ -7,7 +7,8 @@ use Rattle.log_checker.proofs.Fits.{fitted_from}
 pub fitted_append : (s t : State) (a b : List LogLine) → fitted s a ≡ Some t → fitted s (a ++ b) ≡ fitted t b
 unfolding fitted
 fitted_append s t [] b e = ap (λ o. fitted_from o b) e
-fitted_append s t (l ∷ a) b e = elim (after s l) as (λ o. fitted_from o a ≡ Some t → fitted_from o (a ++ b) ≡ fitted t b) [ None ↦ λ h. cc | Some u ↦ λ h. fitted_append u t a b h ] e
+fitted_append s t (l ∷ a) b e = elim (after s l) as (λ o. fitted_from o a ≡ Some t → fitted_from o (a ++ b) ≡ fitted t b)
+    [ None ↦ λ h. cc | Some u ↦ λ h. fitted_append u t a b h ] e
 
 pub fitted_snoc : (s t u : State) (a : List LogLine) (l : LogLine) → fitted s a ≡ Some t → after t l ≡ Some u → fitted s (a ++ l ∷ []) ≡ Some u
 unfolding fitted

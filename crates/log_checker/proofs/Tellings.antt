@@ -78,8 +78,11 @@ outcome-silent p (outcome.Open reason what) = ((λ g. refl), lists-silent p)
 pieces-silent : (ps : List Piece) → AreSilent (flat_map piece_lines ps)
 pieces-silent [] = tt
 pieces-silent (p ∷ ps) =
-    silent-append (piece_lines p) (flat_map piece_lines ps)
-    ((λ g. refl), silent-append (map step_line p.steps) (outcome_lines p p.outcome) (silent-map step_line step-silent p.steps) (outcome-silent p p.outcome)) (pieces-silent ps)
+    silent-append (piece_lines p) (flat_map piece_lines ps) (
+      (λ g. refl),
+      silent-append (map step_line p.steps) (outcome_lines p p.outcome) (silent-map step_line step-silent p.steps)
+          (outcome-silent p p.outcome),
+    ) (pieces-silent ps)
 
 -- ---- lines that tell
 tells_hyps : (g : Gathered) (ps : List Polynomial) → gathered g (map line.Hyp ps) ≡ record g { hyps = g.hyps ++ ps }
@@ -99,11 +102,13 @@ between problems verdicts vars = record { problems = problems; verdicts = verdic
 abbrev telling : List Problem → List Verdict → Problem → Gathered
 telling problems verdicts p = record { problems = problems; verdicts = verdicts; vars = p.vars; hyps = p.hyps; cons = p.cons }
 
-tells_problem : (problems : List Problem) (verdicts : List Verdict) (vars : List VarName) (p : Problem) → gathered (between problems verdicts vars) (problem_lines p) ≡ telling problems verdicts p
+tells_problem : (problems : List Problem) (verdicts : List Verdict) (vars : List VarName) (p : Problem) → gathered (between problems verdicts vars)
+    (problem_lines p) ≡ telling problems verdicts p
 unfolding gathered
 tells_problem problems verdicts vars p =
     let g = between problems verdicts p.vars in
-    gathered_append g (map line.Hyp p.hyps) (map line.Con p.cons) ∙ ap (λ t. gathered t (map line.Con p.cons)) (tells_hyps g p.hyps) ∙ tells_cons (record g { hyps = p.hyps }) p.cons
+    gathered_append g (map line.Hyp p.hyps) (map line.Con p.cons) ∙ ap (λ t. gathered t (map line.Con p.cons)) (tells_hyps g p.hyps) ∙ tells_cons
+    (record g { hyps = p.hyps }) p.cons
 
 tells_proof : (problems : List Problem) (verdicts : List Verdict) (vars : List VarName) (k : ℕ) (p : Proof)
     → gathered (between problems verdicts vars) (proof_lines k p) ≡ between (problems ++ p.problem ∷ []) (verdicts ++ p.verdict ∷ []) p.problem.vars
@@ -128,7 +133,8 @@ tells_proofs problems verdicts vars k (p ∷ ps) =
     gathered_append (between problems verdicts vars) (proof_lines k p) (proofs_lines (suc k) ps)
     ∙ ap (λ g. gathered g (proofs_lines (suc k) ps)) (tells_proof problems verdicts vars k p)
     ∙ tells_proofs (problems ++ p.problem ∷ []) (verdicts ++ p.verdict ∷ []) p.problem.vars (suc k) ps
-    ∙ (λ i. between (append_assoc problems (p.problem ∷ []) (problems_of ps) i) (append_assoc verdicts (p.verdict ∷ []) (verdicts_of ps) i) (last_vars p.problem.vars ps))
+    ∙ (λ i. between (append_assoc problems (p.problem ∷ []) (problems_of ps) i) (append_assoc verdicts (p.verdict ∷ []) (verdicts_of ps) i)
+    (last_vars p.problem.vars ps))
 
 pub log_told : (version : ℕ) (log : List Proof) → gathered nothing (log_lines version log) ≡ between (problems_of log) (verdicts_of log) (last_vars [] log)
 unfolding gathered

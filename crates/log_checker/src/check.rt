@@ -20,7 +20,8 @@ pub fn check_log<D: Domain, K: Desk>(
     desk: &mut K,
     name: &str,
 ) -> Result<Checked, CheckFault>
-    ensures judged { (file : List ℕ) → Holds (K.held desk.old) name.now file → FileJudged result file }
+    ensures judged { (file : List ℕ) → Holds (K.held desk.old) name.now file
+        → FileJudged result file }
     ensures assured { IfOk result (λ checked. AreAssured D.operations checked.problems
         checked.verdicts) }
     ensures covered { (file : List ℕ) → Holds (K.held desk.old) name.now file

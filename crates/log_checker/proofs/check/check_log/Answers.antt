@@ -9,5 +9,6 @@ returns-in-Ok-clause-assured g c =
 
 pub returns-in-Ok-clause-covered : goal.returns-in-Ok-clause-covered
 returns-in-Ok-clause-covered g c file holds =
-    subst (λ bytes. IfOk c.check_bytes.result (λ checked. IsCovered g.D.Domain.operations checked bytes)) (c.deref.ensures.value ∙ c.in-Ok.ensures.whole file holds)
+    subst (λ bytes. IfOk c.check_bytes.result (λ checked. IsCovered g.D.Domain.operations checked bytes))
+    (c.deref.ensures.value ∙ c.in-Ok.ensures.whole file holds)
     (is_covered g.D.Domain.operations c.trees_cover.ensures c.check_bytes.result c.deref.result.now c.check_bytes.ensures)

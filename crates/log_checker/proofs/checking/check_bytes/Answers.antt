@@ -41,7 +41,8 @@ returns-in-Ok-finish c =
     let p = c.loop-rest.invariant.passed in
     let none : length c.loop-rest.rest.now ≡ 0 = eqb-true (length c.loop-rest.rest.now) 0 (sym c.is_empty.ensures ∙ c.loop-rest-test.false) in
     subst (Judged (Ok c.checked.result)) (all_passed c.args.bytes.now c.loop-rest.rest.now c.loop-rest.reader c.loop-rest.progress c.loop-rest.seen p none)
-    (ends_well p.front c.loop-rest.progress p.done c.loop-rest.seen c.checked.result (c.in-Ok-finish.ensures p.done p.front (as_fed p.front c.loop-rest.reader p.done p.fed)) p.behind
+    (ends_well p.front c.loop-rest.progress p.done c.loop-rest.seen c.checked.result
+    (c.in-Ok-finish.ensures p.done p.front (as_fed p.front c.loop-rest.reader p.done p.fed)) p.behind
     c.checked.ensures.problems c.checked.ensures.verdicts)
 
 pub returns-in-Err-Malformed : goal.returns-in-Err-Malformed
@@ -50,4 +51,5 @@ returns-in-Err-Malformed c =
     let none : length c.loop-rest.rest.now ≡ 0 = eqb-true (length c.loop-rest.rest.now) 0 (sym c.is_empty.ensures ∙ c.loop-rest-test.false) in
     subst (λ b. IsMalformed c.in-Err-Malformed.n b) (all_passed c.args.bytes.now c.loop-rest.rest.now c.loop-rest.reader c.loop-rest.progress c.loop-rest.seen p none)
     (ends_ill p.front c.loop-rest.progress p.done c.loop-rest.seen c.in-Err-Malformed.n
-    (subst (λ f. Finished (Err f) p.front p.done) c.in-Err-Malformed.field-0-is (c.in-Err-Malformed.ensures p.done p.front (as_fed p.front c.loop-rest.reader p.done p.fed))) p.behind)
+    (subst (λ f. Finished (Err f) p.front p.done) c.in-Err-Malformed.field-0-is
+    (c.in-Err-Malformed.ensures p.done p.front (as_fed p.front c.loop-rest.reader p.done p.fed))) p.behind)
