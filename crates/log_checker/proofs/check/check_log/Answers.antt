@@ -5,7 +5,8 @@ use Rattle.log_checker.proofs.check.check_log.Goals as goal
 
 pub returns-in-Ok-clause-assured : goal.returns-in-Ok-clause-assured
 returns-in-Ok-clause-assured g c =
-    are_assured g.D.Domain.operations c.verdicts_hold.ensures c.trees_keep_to_their_variables.ensures c.check_bytes.result c.deref.result.now c.check_bytes.ensures
+    let judged = c.check_bytes.ensures in
+    are_assured g.D.Domain.operations c.verdicts_hold.ensures c.trees_keep_to_their_variables.ensures c.check_bytes.result c.deref.result.now judged
 
 pub returns-in-Ok-clause-covered : goal.returns-in-Ok-clause-covered
 returns-in-Ok-clause-covered g c file holds =

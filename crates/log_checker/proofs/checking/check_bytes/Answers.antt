@@ -18,38 +18,47 @@ loop-rest-init c = record {
 
 pub returns-in-Err : goal.returns-in-Err
 returns-in-Err c =
-    let p = c.loop-rest.invariant.passed in
-    passed_fault c.args.bytes.now c.loop-rest.rest.now c.split_at.result.0.now c.split_at.result.1.now c.loop-rest.reader c.loop-rest.progress c.loop-rest.seen c.in-Err.fault p
-    (both_parts c.min.result c.loop-rest.rest.now _ _ c.split_at.ensures.front c.split_at.ensures.back)
-    (c.in-Err.ensures.done p.done p.front (counted c.loop-rest.reader.fed c.args.bytes.now p.done c.loop-rest.rest.now c.loop-rest.invariant.count p.parts)
-    (as_fed p.front c.loop-rest.reader p.done p.fed) p.behind)
+    let l = c.loop-rest in
+    let p = l.invariant.passed in
+    let cut = c.split_at in
+    let whole = both_parts c.min.result l.rest.now _ _ cut.ensures.front cut.ensures.back in
+    let count = counted l.reader.fed c.args.bytes.now p.done l.rest.now l.invariant.count p.parts in
+    passed_fault c.args.bytes.now l.rest.now cut.result.0.now cut.result.1.now l.reader l.progress l.seen c.in-Err.fault p whole
+    (c.in-Err.ensures.done p.done p.front count (as_fed p.front l.reader p.done p.fed) p.behind)
 
 pub loop-rest-preserved : goal.loop-rest-preserved
 loop-rest-preserved c =
-    let p = c.loop-rest.invariant.passed in
-    let e = both_parts c.min.result c.loop-rest.rest.now _ _ c.split_at.ensures.front c.split_at.ensures.back in
+    let l = c.loop-rest in
+    let p = l.invariant.passed in
+    let cut = c.split_at in
+    let next = c.in-Ok-check_piece in
+    let whole = both_parts c.min.result l.rest.now _ _ cut.ensures.front cut.ensures.back in
+    let count = counted l.reader.fed c.args.bytes.now p.done l.rest.now l.invariant.count p.parts in
+    let both = length-append cut.result.0.now cut.result.1.now in
+    let sum = ap length whole in
+    let fed = next.ensures.fed in
+    let all = l.invariant.count in
     record {
-      count = let a = ap length e in let b = length-append c.split_at.result.0.now c.split_at.result.1.now in let d = c.in-Ok-check_piece.ensures.fed in let k = c.loop-rest.invariant.count in omega (arith, a, b, d, k);
-      passed = passed_more c.args.bytes.now c.loop-rest.rest.now c.split_at.result.0.now c.split_at.result.1.now c.loop-rest.reader c.check_piece.new.reader c.loop-rest.progress c.in-Ok-check_piece.next c.loop-rest.seen
-          c.in-Ok-check_piece.all p e
-          (c.in-Ok-check_piece.ensures.done p.done p.front (counted c.loop-rest.reader.fed c.args.bytes.now p.done c.loop-rest.rest.now c.loop-rest.invariant.count p.parts)
-          (as_fed p.front c.loop-rest.reader p.done p.fed) p.behind);
+      count = omega (arith, sum, both, fed, all);
+      passed = passed_more c.args.bytes.now l.rest.now cut.result.0.now cut.result.1.now l.reader c.check_piece.new.reader l.progress next.next l.seen next.all p whole
+          (next.ensures.done p.done p.front count (as_fed p.front l.reader p.done p.fed) p.behind);
     }
 
 pub returns-in-Ok-finish : goal.returns-in-Ok-finish
 returns-in-Ok-finish c =
-    let p = c.loop-rest.invariant.passed in
-    let none : length c.loop-rest.rest.now ≡ 0 = eqb-true (length c.loop-rest.rest.now) 0 (sym c.is_empty.ensures ∙ c.loop-rest-test.false) in
-    subst (Judged (Ok c.checked.result)) (all_passed c.args.bytes.now c.loop-rest.rest.now c.loop-rest.reader c.loop-rest.progress c.loop-rest.seen p none)
-    (ends_well p.front c.loop-rest.progress p.done c.loop-rest.seen c.checked.result
-    (c.in-Ok-finish.ensures p.done p.front (as_fed p.front c.loop-rest.reader p.done p.fed)) p.behind
-    c.checked.ensures.problems c.checked.ensures.verdicts)
+    let l = c.loop-rest in
+    let p = l.invariant.passed in
+    let none : length l.rest.now ≡ 0 = eqb-true (length l.rest.now) 0 (sym c.is_empty.ensures ∙ c.loop-rest-test.false) in
+    let ends = c.in-Ok-finish.ensures p.done p.front (as_fed p.front l.reader p.done p.fed) in
+    subst (Judged (Ok c.checked.result)) (all_passed c.args.bytes.now l.rest.now l.reader l.progress l.seen p none)
+    (ends_well p.front l.progress p.done l.seen c.checked.result ends p.behind c.checked.ensures.problems c.checked.ensures.verdicts)
 
 pub returns-in-Err-Malformed : goal.returns-in-Err-Malformed
 returns-in-Err-Malformed c =
-    let p = c.loop-rest.invariant.passed in
-    let none : length c.loop-rest.rest.now ≡ 0 = eqb-true (length c.loop-rest.rest.now) 0 (sym c.is_empty.ensures ∙ c.loop-rest-test.false) in
-    subst (λ b. IsMalformed c.in-Err-Malformed.n b) (all_passed c.args.bytes.now c.loop-rest.rest.now c.loop-rest.reader c.loop-rest.progress c.loop-rest.seen p none)
-    (ends_ill p.front c.loop-rest.progress p.done c.loop-rest.seen c.in-Err-Malformed.n
-    (subst (λ f. Finished (Err f) p.front p.done) c.in-Err-Malformed.field-0-is
-    (c.in-Err-Malformed.ensures p.done p.front (as_fed p.front c.loop-rest.reader p.done p.fed))) p.behind)
+    let l = c.loop-rest in
+    let p = l.invariant.passed in
+    let n = c.in-Err-Malformed.n in
+    let none : length l.rest.now ≡ 0 = eqb-true (length l.rest.now) 0 (sym c.is_empty.ensures ∙ c.loop-rest-test.false) in
+    let ends = c.in-Err-Malformed.ensures p.done p.front (as_fed p.front l.reader p.done p.fed) in
+    subst (IsMalformed n) (all_passed c.args.bytes.now l.rest.now l.reader l.progress l.seen p none)
+    (ends_ill p.front l.progress p.done l.seen n (subst (λ f. Finished (Err f) p.front p.done) c.in-Err-Malformed.field-0-is ends) p.behind)

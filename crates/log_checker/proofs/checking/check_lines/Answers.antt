@@ -10,9 +10,17 @@ loop-line-init c = record {
 }
 
 pub loop-line-preserved : goal.loop-line-preserved
-loop-line-preserved c = record {
-  few = let a = ap length c.in-Some.ensures.items in let b = length-append c.pop.new.self.items
-      (c.in-Some.line ∷ []) in let d = c.loop-line.invariant.few in omega (arith, a, b, d);
-  sofar = one_checked c.args.progress c.args.lines.items c.loop-line.lines.items c.pop.new.self.items c.loop-line.progress c.in-Some-2.next c.loop-line.count c.in-Some.line c.loop-line.invariant.sofar c.in-Some.ensures.items
-      (subst (Goes c.loop-line.progress c.in-Some.line) c.in-Some-2.is c.in_ok-next.ensures);
-}
+loop-line-preserved c =
+    let l = c.loop-line in
+    let line = c.in-Some.line in
+    let parts = c.in-Some.ensures.items in
+    let left = c.pop.new.self.items in
+    let next = c.in-Some-2.next in
+    let fewer = ap length parts in
+    let one = length-append left (line ∷ []) in
+    let few = l.invariant.few in
+    record {
+      few = omega (arith, fewer, one, few);
+      sofar = one_checked c.args.progress c.args.lines.items l.lines.items left l.progress next l.count line l.invariant.sofar parts
+          (subst (Goes l.progress line) c.in-Some-2.is c.in_ok-next.ensures);
+    }
