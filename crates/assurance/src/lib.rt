@@ -3,6 +3,4 @@
 
 mod laws;
 
-pub use laws::{
-    tallies_tell_verdicts, trees_cover, trees_keep_to_their_variables, verdicts_hold,
-};
+pub use laws::{tallies_tell_verdicts, trees_cover, trees_keep_to_their_variables, verdicts_hold};

@@ -1,5 +1,5 @@
 -- What `prove` answers of the bytes of a file: the log of its proofs, and a line for each verdict.
-use Rattle.std.specs.Prelude.{ℕ, List, [], map, Bool, true, false, if◌then◌else◌, Result}
+use Rattle.std.specs.Prelude.{ℕ, List, [], Bool, true, false, if◌then◌else◌, Result}
 use Rattle.std.specs.List.{list_all}
 use Rattle.gcl_reader.specs.Grammar.{◌>>=◌}
 use Rattle.gcl_reader.specs.declared.refusal.Refusal.{Refusal}

@@ -77,9 +77,11 @@ outcome-keeps : (p : Piece) (x : Outcome) → AllKeep (outcome_lines p x)
 outcome-keeps p (outcome.Split f initial) = ((λ names. refl), tt)
 outcome-keeps p (outcome.Close i) = ((λ names. refl), tt)
 outcome-keeps p (outcome.Clash i j) = ((λ names. refl), tt)
-outcome-keeps p (outcome.System chain s) =
-    ((λ names. refl), all-append Keeps (list_lines p) (map line.Chain chain ++ status_line s ∷ []) (lists-keep p)
-    (all-append Keeps (map line.Chain chain) (status_line s ∷ []) (all-map Keeps line.Chain (λ c names. refl) chain) (status-keeps s, tt)))
+outcome-keeps p (outcome.System chain s) = (
+  (λ names. refl),
+  all-append Keeps (list_lines p) (map line.Chain chain ++ status_line s ∷ []) (lists-keep p)
+      (all-append Keeps (map line.Chain chain) (status_line s ∷ []) (all-map Keeps line.Chain (λ c names. refl) chain) (status-keeps s, tt)),
+)
 outcome-keeps p (outcome.Open why what) = ((λ names. refl), lists-keep p)
 
 pieces-keep : (ps : List Piece) → AllKeep (flat_map piece_lines ps)

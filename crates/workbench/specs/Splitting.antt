@@ -13,7 +13,10 @@ use Rattle.workbench.specs.declared.splitting.Parting.{Parting}
 use Rattle.workbench.specs.declared.splitting.Parting.TheVariants as parting
 
 abbrev pub Parts : Node → ℕ → Parting → Type 0
-Parts n f (parting.Parted j plus minus) = (reason_of 1 n (attempt.Split f) ≡ None) × (recorded_as n (attempt.Split f) ≡ AsOutcome (outcome.Split f j)) × (made 1 n (attempt.Split f) ≡ plus ∷ minus ∷ [])
+Parts n f (parting.Parted j plus minus) =
+    (reason_of 1 n (attempt.Split f) ≡ None)
+    × (recorded_as n (attempt.Split f) ≡ AsOutcome (outcome.Split f j))
+    × (made 1 n (attempt.Split f) ≡ plus ∷ minus ∷ [])
 Parts n f (parting.Stopped why) = reason_of 1 n (attempt.Split f) ≡ Some why
 
 -- The same by the initial and the tail.
@@ -30,4 +33,7 @@ second_fuel fuel gain size = max ((fuel - (1 + gain)) / 8) size
 
 abbrev pub Shares : Option Fuels → (fuel size gain minus_size : ℕ) → Type 0
 Shares None fuel size gain minus_size = fuel - (1 + gain) - second_fuel fuel gain minus_size < size + (1 + gain)
-Shares (Some f) fuel size gain minus_size = (f.minus ≡ second_fuel fuel gain minus_size) × (f.plus ≡ fuel - (1 + gain) - second_fuel fuel gain minus_size) × (size + (1 + gain) ≤ f.plus)
+Shares (Some f) fuel size gain minus_size =
+    (f.minus ≡ second_fuel fuel gain minus_size)
+    × (f.plus ≡ fuel - (1 + gain) - second_fuel fuel gain minus_size)
+    × (size + (1 + gain) ≤ f.plus)

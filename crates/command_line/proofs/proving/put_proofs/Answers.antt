@@ -1,6 +1,5 @@
 use Rattle.std.proofs.Common.{All, ◌∙◌, ap, sym, subst}
 use Rattle.std.specs.List.{flat_map}
-use Rattle.desk_io.proofs.Growth.{append_known-none}
 use Rattle.proof_log.proofs.Owned.{log-own}
 use Rattle.proof_log.specs.Own.{IsOwn}
 use Rattle.proof_log.specs.declared.limits.TheConstants.{VERSION}
@@ -12,8 +11,8 @@ use Rattle.command_line.proofs.proving.put_proofs.Goals as goal
 pub all_verdict_lines-requires : goal.all_verdict_lines-requires
 all_verdict_lines-requires g c = subst (All IsOwn) (sym c.as_slice.ensures) (log-own VERSION c.args.log.now.proofs c.requires.written c.requires.lines)
 
-pub put_log-requires-own : goal.put_log-requires-own
-put_log-requires-own g c = log-own VERSION c.args.log.now.proofs c.requires.written c.requires.lines
+pub put_log-requires-clause-own : goal.put_log-requires-clause-own
+put_log-requires-clause-own g c = log-own VERSION c.args.log.now.proofs c.requires.written c.requires.lines
 
 pub returns-in-Ok-put_log-clause-ends : goal.returns-in-Ok-put_log-clause-ends
 returns-in-Ok-put_log-clause-ends g c =
@@ -21,7 +20,7 @@ returns-in-Ok-put_log-clause-ends g c =
     c.say_each.ensures.ends (proved proofs) (g.S.Sink.written c.args.out.now) (g.S.Sink.written c.put_log.new.out)
     (ap status_of (sym c.as_slice-2.ensures) ∙ sym c.status_of-status.ensures)
     (ap (λ ps. verdicts_text (problems_in ps) (verdicts_in ps)) (sym c.as_slice.ensures) ∙ sym c.in-Ok.ensures
-      ∙ ap (flat_map (λ line. line.items)) (sym c.deref.ensures.value))
+    ∙ ap (flat_map (λ line. line.items)) (sym c.deref.ensures.value))
     c.in-Ok-put_log.ensures.bytes
 
 pub returns-clause-ends : goal.returns-clause-ends

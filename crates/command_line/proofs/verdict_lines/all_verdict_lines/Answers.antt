@@ -18,7 +18,7 @@ loop-proof-preserved c =
     let items : c.push.new.self.items ≡ lines ++ line ∷ [] = c.in_ok-push.ensures.items in
     let len : vec_len c.push.new.self ≡ vec_len c.loop-proof.lines + 1 = c.in_ok-push.ensures.len in
     let made : line.items ≡ verdict_line (vec_len c.loop-proof.lines + 1) proof.problem.vars proof.verdict =
-        c.in_ok-line.ensures ∙ ap (λ n. verdict_line (n + 1) proof.problem.vars proof.verdict) c.len.ensures in
+    c.in_ok-line.ensures ∙ ap (λ n. verdict_line (n + 1) proof.problem.vars proof.verdict) c.len.ensures in
     record {
       number = omega (arith, c.in-Some.ensures.cases.1, c.loop-proof.invariant.number, len);
       own = all_others IsOwn _ _ _ c.in-Some.ensures.cases.0 c.loop-proof.invariant.own;

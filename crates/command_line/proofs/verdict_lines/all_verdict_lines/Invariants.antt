@@ -1,4 +1,4 @@
-use Rattle.std.proofs.Common.{◌≡◌, ◌≤◌, ◌+◌, ◌++◌, All, length, vec_len}
+use Rattle.std.proofs.Common.{◌≡◌, ◌+◌, ◌++◌, All, length, vec_len}
 use Rattle.std.specs.List.{flat_map}
 use Rattle.proof_log.specs.Own.{IsOwn}
 use Rattle.command_line.specs.VerdictLines.{verdict_lines, verdicts_text, problems_in, verdicts_in}
