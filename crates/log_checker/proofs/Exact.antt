@@ -2,20 +2,18 @@
 use Rattle.std.proofs.Common.{◌≡◌, ◌≢◌, ℕ, ◌+◌, List, [], ◌∷◌, ◌++◌, length, refl, sym, ◌∙◌, ap, arith, Option, Some, None, append_assoc, append-nil, subst, length-append, inl, inr, ◌⊎◌, true}
 use Rattle.poly_model.specs.Names.{are_variables}
 use Rattle.poly_model.specs.declared.vars.VarName.{VarName}
-use Rattle.proof_log.specs.Grammar.{IsFront, IsUnended, Begins, Refuses, EndsEarly, names_behind}
+use Rattle.proof_log.specs.Grammar.{IsFront, IsWhole, IsUnended, Begins, Refuses, EndsEarly, names_behind}
 use Rattle.proof_log.specs.Lines.{log_lines}
-use Rattle.proof_log.specs.Text.{row_of, line_text, names_after, text_of, AreLines}
+use Rattle.proof_log.specs.Text.{row_of, line_text, names_after, text_of, IsLine, AreLines}
 use Rattle.proof_log.specs.declared.line.LogLine.{LogLine}
 use Rattle.proof_log.specs.declared.line.LineWord.{LineWord}
 use Rattle.proof_log.specs.declared.log.Proof.{Proof}
 use Rattle.proof_log.proofs.Bytes.{cut, heads}
-use Rattle.proof_log.proofs.Held.{no_cut}
 use Rattle.proof_log.proofs.OneLine.{one_line}
 use Rattle.proof_log.proofs.OneText.{line-plain, names-kept, one_log_text}
 use Rattle.log_checker.specs.Answers.{Finding, Accepted, Malformed, Rejected, IsFound, IsAcceptedText, IsMalformed, IsRejected}
 use Rattle.log_checker.specs.Fitting.{State, begin, after, fitted}
 use Rattle.log_checker.proofs.Fits.{log_goes}
-use Rattle.log_checker.proofs.Running.{fitted_append}
 
 -- ---- two lists of lines in one text
 -- One goes on where the other ends.
@@ -60,7 +58,7 @@ stop_begins : (front : List LogLine) (bytes : List ℕ) (s : Stops front bytes) 
 stop_begins front bytes (inl r) = r.begins
 stop_begins front bytes (inr r) = r.begins
 
-pub all_lines : (names : List VarName) (a b : List LogLine) → AreLines names (a ++ b) → AreLines (names_behind names a) b
+all_lines : (names : List VarName) (a b : List LogLine) → AreLines names (a ++ b) → AreLines (names_behind names a) b
 unfolding AreLines names_behind
 all_lines names [] b h = h
 all_lines names (l ∷ a) b h = all_lines (names_after names l) a b h.1
@@ -69,6 +67,12 @@ names_all : (names : List VarName) (a : List LogLine) → are_variables names �
 unfolding AreLines names_behind
 names_all names [] v h = v
 names_all names (l ∷ a) v h = names_all (names_after names l) a (names-kept names l v h.0) h.1
+
+no_cut : (a b x : List ℕ) → IsUnended a → IsUnended b → a ++ 10 ∷ x ≢ b
+no_cut [] [] x u v e = cc
+no_cut [] (c ∷ b) x u v e = v.0 (let h : 10 ≡ c = cc in sym h)
+no_cut (c ∷ a) [] x u v e = cc
+no_cut (c ∷ a) (d ∷ b) x u v e = let t : a ++ 10 ∷ x ≡ b = cc in no_cut a b x u.1 v.1 t
 
 no_more : (front b : List LogLine) (l : LogLine) (more : List LogLine) (y bytes : List ℕ) (s : Stops front bytes) → Begins b y bytes → b ≡ front ++ l ∷ more
     → rest_of front bytes s ≡ text_of (names_behind [] front) (l ∷ more) ++ y → ⊥
@@ -114,6 +118,16 @@ within front b y bytes s g = elim (begins_two front b (rest_of front bytes s) y 
   none_more r (l ∷ m) e = absurd (no_more front b l m y bytes s g (r.is ∙ ap (λ t. front ++ t) e) (r.rest ∙ ap (λ t. text_of (names_behind [] front) t ++ y) e))
 
 -- ---- a front of lines that fit has no misfit
+fitted_append : (s t : State) (a b : List LogLine) → fitted s a ≡ Some t → fitted s (a ++ b) ≡ fitted t b
+unfolding fitted
+fitted_append s t [] b e = ap (λ (o : Option State). elim o [ None ↦ fitted s b | Some u ↦ fitted u b ]) e
+fitted_append s t (l ∷ a) b e = by (after s l) (λ u. fitted_append u t a b) e where
+  by : (o : Option State) → ((u : State) → fitted u a ≡ Some t → fitted u (a ++ b) ≡ fitted t b)
+      → ◌≡◌ {A = Option State} (elim o [ None ↦ None | Some u ↦ fitted u a ]) (Some t)
+      → ◌≡◌ {A = Option State} (elim o [ None ↦ None | Some u ↦ fitted u (a ++ b) ]) (fitted t b)
+  by None next h = cc
+  by (Some u) next h = next u h
+
 misfit_within : (a more : List LogLine) (l : LogLine) (s t : State) (ls : List LogLine) → fitted begin a ≡ Some s → after s l ≡ None → ls ≡ (a ++ l ∷ []) ++ more → fitted begin ls ≡ Some t → ⊥
 unfolding fitted
 misfit_within a more l s t ls fit none e f =
