@@ -1,6 +1,7 @@
 #!/usr/bin/env bash
 # Counts the instructions that `gclc prove` takes for figures of growing size and for the theorems of examples/, and how many of
-# them go into the text of the log: into `write_log` and what it calls.
+# them go into the work on nodes (`expand`) and into the text of the log's lines. A chain of midpoints is one node whose
+# equations grow with the chain.
 set -eu
 top=$(cd "$(dirname "$0")/.." && pwd)
 "$top/gclc" svg "$top/examples/segment.gcl" >/dev/null
@@ -16,16 +17,22 @@ make_chain() {
     printf 'prove { collinear M1 M%d C }\n' "$1"
 }
 
+# The instructions of the function that matches, with what it calls.
+within() {
+    callgrind_annotate --inclusive=yes --threshold=100 "$work/out" 2>/dev/null |
+        awk -v name="$1" '$0 ~ name { gsub(",", "", $1); if ($1 + 0 > n) n = $1 + 0 } END { print n + 0 }'
+}
+
 count() {
     valgrind --tool=callgrind --callgrind-out-file="$work/out" "$program" prove "$2" >"$work/log" 2>"$work/notes" || true
     total=$(awk '/^(summary|totals):/ { n = $2 } END { print n }' "$work/out")
-    text=$(callgrind_annotate --inclusive=yes --threshold=100 "$work/out" 2>/dev/null |
-        awk '/write_log/ { gsub(",", "", $1); if ($1 + 0 > n) n = $1 + 0 } END { print n + 0 }')
-    printf '| %s | %s | %s | %s |\n' "$1" "$(wc -c <"$work/log")" "$total" \
-        "$(awk -v t="$text" -v n="$total" 'BEGIN { printf "%.1f %%", 100 * t / n }')"
+    awk -v name="$1" -v bytes="$(wc -c <"$work/log")" -v total="$total" -v node="$(within 'expanding::expand')" \
+        -v text="$(within 'line_writing::write_row')" 'BEGIN {
+            printf "| %s | %d | %d | %d | %.0f %% |\n", name, bytes, total, node, 100 * text / total
+        }'
 }
 
-printf '| figure | bytes of the log | instructions | in the text |\n|---|---|---|---|\n'
+printf '| figure | bytes of the log | instructions | in `expand` | in the text |\n|---|---|---|---|---|\n'
 for n in 4 8 16; do
     make_chain "$n" >"$work/chain"
     count "chain of $n midpoints" "$work/chain"
