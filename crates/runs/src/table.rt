@@ -1,8 +1,6 @@
 // A table of runs, read line by line.
 use crate::case::{Case, Part};
 use std::alloc::{AllocError, Global};
-use std::sync::Wait;
-use std::thread::Threads;
 
 /// The number of runs that came out as the table says, the lines of those that did not, and the run that is being read.
 #[derive(Drop)]
@@ -34,14 +32,9 @@ impl Table {
     }
 
     /// Takes a line, which has this number. A line that is none of the table counts as a run that comes out otherwise.
-    pub fn take<R: Threads + Wait + Sync>(
-        &mut self,
-        rt: &R,
-        number: u32,
-        line: &str,
-    ) -> Result<(), AllocError> {
+    pub fn take(&mut self, number: u32, line: &str) -> Result<(), AllocError> {
         if let Some(words) = line.strip_prefix("run") {
-            self.finish(rt)?;
+            self.finish()?;
             self.case = Some(Case::new(self.alloc, number, words)?);
             return Ok(());
         }
@@ -101,10 +94,10 @@ impl Table {
     }
 
     // Runs the case that is read, if there is one.
-    fn finish<R: Threads + Wait + Sync>(&mut self, rt: &R) -> Result<(), AllocError> {
+    fn finish(&mut self) -> Result<(), AllocError> {
         if let Some(case) = self.case.take() {
             let line = case.line;
-            if case.comes_out(rt, self.alloc)? {
+            if case.comes_out(self.alloc)? {
                 self.good = self.good.saturating_add(1);
             } else {
                 self.bad.push(line)?;
@@ -114,8 +107,8 @@ impl Table {
     }
 
     /// Runs the last row, and gives the number of the runs that came out as the table says and the lines of the others.
-    pub fn end<R: Threads + Wait + Sync>(mut self, rt: &R) -> Result<(u32, Vec<u32>), AllocError> {
-        self.finish(rt)?;
+    pub fn end(mut self) -> Result<(u32, Vec<u32>), AllocError> {
+        self.finish()?;
         Ok((self.good, self.bad))
     }
 }
