@@ -6,6 +6,10 @@ mod Trying
 mod Fitness
 pub mod Inside
 pub mod Fits
+mod Running
+mod Passes
+mod Tellings
+mod Assured
 pub mod Exact
 mod Listing
 mod Dues

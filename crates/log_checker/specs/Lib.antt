@@ -8,3 +8,8 @@ pub mod Trials
 pub mod Views
 pub mod Lists
 pub mod Turns
+pub mod Gathering
+pub mod Checkers
+pub mod Checked
+pub mod Pieces
+pub mod Against

@@ -1,11 +1,17 @@
 //! Which logs are accepted, line by line and as a whole.
 #![tactic(auto)]
 
+mod against;
 mod arith;
 mod chain;
+mod check;
+mod checker;
+mod checking;
 mod children;
 mod due;
 mod ending;
+mod fault;
+mod gathering;
 mod laws;
 mod lists;
 mod node;
@@ -17,4 +23,8 @@ mod rules;
 mod triangular;
 mod within;
 
+pub use against::check_against;
+pub use check::check_log;
+pub use checking::Checked;
+pub use fault::CheckFault;
 pub use laws::{findings_are_unique, fitting_is_accepted, pieces_end_in_what_follows};

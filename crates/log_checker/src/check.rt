@@ -1,0 +1,49 @@
+ghost use Rattle.std.specs.Prelude.{◌≡◌, ◌≤◌, ◌<◌, ◌⊎◌, ℕ, List, length, IfOk, OnOk, IsErrOf, Result, Err};
+ghost use Rattle.desk_io.specs.Causes.{Rose};
+ghost use Rattle.desk_io.specs.Files.{Holds, Lacks};
+ghost use Rattle.poly_model.specs.declared.limits.TheConstants.{MOST_LOG_BYTES};
+ghost use Rattle.log_checker.specs.Checked.{FileJudged, AreAssured, IsCovered};
+
+use crate::checking::{Checked, check_bytes};
+use crate::fault::CheckFault;
+use assurance::{trees_cover, trees_keep_to_their_variables, verdicts_hold};
+use desk_io::{Desk, DeskFault, read_whole};
+use poly_model::{Domain, MOST_LOG_BYTES};
+use std::alloc::Global;
+
+/// Checks a log that anyone may have written: it is accepted, or its first line at fault is told.
+///
+/// The domain is not used: the call tells what the verdicts mean in it.
+pub fn check_log<D: Domain, K: Desk>(
+    alloc: Global,
+    domain: &D,
+    desk: &mut K,
+    name: &str,
+) -> Result<Checked, CheckFault>
+    ensures judged { (file : List ℕ) → Holds (K.held desk.old) name.now file
+        → FileJudged result file }
+    ensures assured { IfOk result (λ checked. AreAssured D.operations checked.problems
+        checked.verdicts) }
+    ensures covered { (file : List ℕ) → Holds (K.held desk.old) name.now file
+        → IfOk result (λ checked. IsCovered D.operations checked file) }
+    ensures many { IfOk result (λ checked. length checked.verdicts ≡ length checked.problems) }
+    ensures absent { Lacks (K.held desk.old) name.now
+        → IsErrOf result CheckFault.ReadFault ⊎ IsErrOf result CheckFault.OutOfMemory }
+    ensures oversize { (file : List ℕ) → Holds (K.held desk.old) name.now file
+        → MOST_LOG_BYTES < length file → IsErrOf result CheckFault.TooLarge
+        ⊎ IsErrOf result CheckFault.ReadFault ⊎ IsErrOf result CheckFault.OutOfMemory }
+    ensures read_fault { IsErrOf result CheckFault.ReadFault
+        → Rose (K.faults desk.old) (K.faults desk.new) ⊎ Lacks (K.held desk.old) name.now }
+    ensures same { K.held desk.new ≡ K.held desk.old }
+    ensures later { K.faults desk.old ≤ K.faults desk.new }
+{
+    trees_cover(domain);
+    verdicts_hold(domain);
+    trees_keep_to_their_variables();
+    match read_whole(alloc, desk, name, MOST_LOG_BYTES) {
+        Ok(bytes) => check_bytes(alloc, &bytes),
+        Err(DeskFault::ReadFault) => Err(CheckFault::ReadFault),
+        Err(DeskFault::TooLarge) => Err(CheckFault::TooLarge),
+        Err(DeskFault::OutOfMemory) => Err(CheckFault::OutOfMemory),
+    }
+}

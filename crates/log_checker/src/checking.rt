@@ -1,0 +1,181 @@
+ghost use Rattle.std.specs.Prelude.{◌≡◌, ◌≤◌, ◌<◌, ◌+◌, ◌^◌, [], ◌++◌, ℕ, List, length, vec_len, IfOk, Result, Ok, Err};
+ghost use Rattle.poly_model.specs.declared.limits.TheConstants.{MOST_LOG_BYTES};
+ghost use Rattle.proof_log.specs.Feeding.{IsFed};
+ghost use Rattle.proof_log.specs.declared.line.LogLine.{LogLine};
+ghost use Rattle.log_checker.specs.Checked.{Judged, Tells};
+ghost use Rattle.log_checker.specs.Pieces.{Goes, IsNew, IsBehind, LinesJudged, PieceDone, fed_of, is_memory};
+
+use crate::checker::LineChecker;
+use crate::fault::CheckFault;
+use crate::gathering::Gathering;
+use poly_model::Row;
+use proof_log::{LineWord, LogFault, LogLine, LogReader};
+use proof_steps::Problem;
+use std::alloc::{AllocError, Global};
+use verdicts::Verdict;
+
+/// The problems of an accepted log and their verdicts, in their order.
+#[derive(Debug, Drop)]
+pub struct Checked {
+    pub problems: Row<Problem>,
+    pub verdicts: Row<Verdict>,
+}
+
+/// What is known behind lines that fit.
+#[derive(Drop)]
+pub struct Progress {
+    checker: LineChecker,
+    told: Gathering,
+}
+
+impl Progress {
+    pub fn new(alloc: Global) -> Result<Progress, AllocError>
+        ensures { IfOk result IsNew }
+    {
+        Ok(Progress {
+            checker: LineChecker::new(alloc)?,
+            told: Gathering::new(alloc),
+        })
+    }
+
+    fn line(self, line: LogLine) -> Result<Option<Progress>, AllocError>
+        ensures { IfOk result (Goes self line) }
+    {
+        let told = self.told.line(&line)?;
+        match self.checker.line(line)? {
+            Some(checker) => Ok(Some(Progress { checker, told })),
+            None => Ok(None),
+        }
+    }
+
+    fn checked(self) -> Checked
+        ensures problems { result.problems ≡ self.told.problems.items }
+        ensures verdicts { result.verdicts ≡ self.told.verdicts.items }
+    {
+        Checked {
+            problems: Row::from_vec(self.told.problems),
+            verdicts: Row::from_vec(self.told.verdicts),
+        }
+    }
+}
+
+/// Lines that fit, and how many they are; or the first that does not, by how many stand before it, and its word.
+#[derive(Drop)]
+pub enum Lines {
+    Fit(Progress, usize),
+    Misfit(usize, LineWord),
+}
+
+fn check_lines(progress: Progress, lines: Vec<LogLine>) -> Result<Lines, AllocError>
+    ensures { IfOk result (LinesJudged progress lines.items) }
+{
+    let mut lines = lines;
+    lines.reverse();
+    let mut progress = progress;
+    let mut count = 0;
+    while let Some(line) = lines.pop() {
+        let word = line.word();
+        match progress.line(line)? {
+            Some(next) => progress = next,
+            None => return Ok(Lines::Misfit(count, word)),
+        }
+        count += 1;
+    }
+    Ok(Lines::Fit(progress, count))
+}
+
+/// The number of the line behind so many lines and so many more, counted from 1.
+fn number(seen: usize, more: usize) -> u32
+    ensures { seen + more + 1 < 2 ^ 32 → result ≡ seen + more + 1 }
+{
+    let before = seen.saturating_add(more).min(u32::MAX as usize - 1);
+    (before + 1) as u32
+}
+
+/// How a reader stopped, if it did.
+#[derive(Clone, Copy, Debug)]
+pub enum Stop {
+    No,
+    At(u32),
+    Memory,
+}
+
+fn stop_of(fed: Result<(), LogFault>) -> Stop
+    ensures { fed ≡ fed_of result }
+{
+    match fed {
+        Ok(()) => Stop::No,
+        Err(LogFault::Malformed(n)) => Stop::At(n),
+        Err(LogFault::OutOfMemory) => Stop::Memory,
+    }
+}
+
+fn is_memory(stop: Stop) -> bool
+    ensures { result ≡ is_memory stop }
+{
+    matches!(stop, Stop::Memory)
+}
+
+/// Checks the lines that a piece of the log ends, and drops them.
+fn check_piece(
+    alloc: Global,
+    reader: &mut LogReader,
+    progress: Progress,
+    seen: usize,
+    piece: &[u8],
+) -> Result<(Progress, usize), CheckFault>
+    requires { reader.old.fed + length piece.now ≤ 2 ^ 30 }
+    ensures fed { IfOk result (λ r. reader.new.fed ≡ reader.old.fed + length piece.now) }
+    ensures done { (bytes : List ℕ) (front : List LogLine) → length bytes ≡ reader.old.fed
+        → IsFed front reader.old bytes → IsBehind front progress seen
+        → PieceDone result front reader.new bytes piece.now }
+{
+    let mut lines = Vec::new(alloc);
+    let stop = stop_of(reader.feed(piece, &mut lines));
+    if is_memory(stop) {
+        return Err(CheckFault::OutOfMemory);
+    }
+    match check_lines(progress, lines) {
+        Err(_) => Err(CheckFault::OutOfMemory),
+        Ok(Lines::Misfit(more, word)) => Err(CheckFault::Rejected(number(seen, more), word)),
+        Ok(Lines::Fit(next, count)) => match stop {
+            Stop::No => Ok((next, seen.saturating_add(count))),
+            Stop::At(n) => Err(CheckFault::Malformed(n)),
+            Stop::Memory => Err(CheckFault::OutOfMemory),
+        },
+    }
+}
+
+// How many bytes are read into lines at a time.
+const PIECE: usize = 65_536;
+
+/// Checks the bytes of a log, piece by piece.
+pub fn check_bytes(alloc: Global, bytes: &[u8]) -> Result<Checked, CheckFault>
+    requires { length bytes.now ≤ MOST_LOG_BYTES }
+    ensures { Judged result bytes.now }
+{
+    let Ok(mut reader) = LogReader::new(alloc) else {
+        return Err(CheckFault::OutOfMemory);
+    };
+    let Ok(mut progress) = Progress::new(alloc) else {
+        return Err(CheckFault::OutOfMemory);
+    };
+    let mut seen = 0;
+    let mut rest = bytes;
+    while !rest.is_empty() {
+        let (piece, after) = rest.split_at(rest.len().min(PIECE));
+        match check_piece(alloc, &mut reader, progress, seen, piece) {
+            Ok((next, all)) => {
+                progress = next;
+                seen = all;
+            }
+            Err(fault) => return Err(fault),
+        }
+        rest = after;
+    }
+    match reader.finish() {
+        Ok(()) => Ok(progress.checked()),
+        Err(LogFault::Malformed(n)) => Err(CheckFault::Malformed(n)),
+        Err(LogFault::OutOfMemory) => Err(CheckFault::OutOfMemory),
+    }
+}

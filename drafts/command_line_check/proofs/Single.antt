@@ -1,0 +1,65 @@
+-- No form has two answers over the same files.
+use Rattle.std.proofs.Common.{◌≡◌, ◌≢◌, ◌⊎◌, ℕ, List, [], ◌∷◌, length, get_or, map, Option, None, Some, Result, Ok, Err, Bool, true, false, nat_lt, inl, inr, sym, ◌∙◌, ap, subst}
+use Rattle.gcl_reader.specs.declared.refusal.Refusal.{Refusal}
+use Rattle.algebraize.specs.Equations.{Equations}
+use Rattle.desk_io.specs.Files.{Files, file_of}
+use Rattle.proof_log.specs.declared.log.Proof.{Proof}
+use Rattle.log_checker.specs.Answers.{Finding, Accepted, Malformed, Rejected, IsFound}
+use Rattle.log_checker.proofs.Exact.{one_finding}
+use Rattle.command_line.specs.Answer.{Answer, read_fault, too_large}
+use Rattle.command_line.specs.Checking.{answer_to, IsChecked, IsCompared, IsAnswerAgainst, IsComparedLog, IsAgainst, stated_in}
+use Rattle.command_line.specs.Table.{Form, TextOf, ProveOf, CheckOf, Source, OfFile, OfSources, IsAnswerOver, IsAnswer, sources_of}
+
+-- There is at most one answer.
+abbrev AtMostOne : (Answer → Type 0) → Type 0
+AtMostOne Is = (a b : Answer) → Is a → Is b → a ≡ b
+
+-- ---- checked logs
+checked_one : (log : List ℕ) → AtMostOne (IsChecked log)
+checked_one log a b p q = p.answer ∙ ap answer_to (one_finding log p.finding q.finding p.found q.found) ∙ sym q.answer
+
+compared_one : (problems : List Equations) (proofs : List Proof) → AtMostOne (IsCompared problems proofs)
+compared_one problems proofs a b (inl p) (inl q) = p.1 ∙ sym q.1
+compared_one problems proofs a b (inl p) (inr q) = absurd (q.0 p.0)
+compared_one problems proofs a b (inr p) (inl q) = absurd (p.0 q.0)
+compared_one problems proofs a b (inr p) (inr q) = p.1 ∙ sym q.1
+
+against_one : (problems : List Equations) (f : Finding) → AtMostOne (IsAnswerAgainst problems f)
+against_one problems (Accepted proofs) a b p q = compared_one problems proofs a b p q
+against_one problems (Malformed n) a b p q = p ∙ sym q
+against_one problems (Rejected n w) a b p q = p ∙ sym q
+
+compared_log_one : (problems : List Equations) (log : List ℕ) → AtMostOne (IsComparedLog problems log)
+compared_log_one problems log a b p q =
+    against_one problems q.finding a b (subst (λ f. IsAnswerAgainst problems f a) (one_finding log p.finding q.finding p.found q.found) p.answer) q.answer
+
+of_problems_one : (file log : List ℕ) (made : Result (List Equations) Refusal) → AtMostOne (IsAgainst file log made)
+of_problems_one file log (Ok problems) a b p q = compared_log_one problems log a b p q
+of_problems_one file log (Err refusal) a b p q = p ∙ sym q
+
+-- ---- forms
+by_size : (bytes : List ℕ) (Next : List ℕ → Answer → Type 0) → AtMostOne (Next bytes) → (t : Bool)
+    → AtMostOne (λ a. elim t [ true ↦ a ≡ too_large | false ↦ Next bytes a ])
+by_size bytes Next one true a b p q = p ∙ sym q
+by_size bytes Next one false a b p q = one a b p q
+
+over_file : (most : ℕ) (o : Option (List ℕ)) (Next : List ℕ → Answer → Type 0) → ((bytes : List ℕ) → AtMostOne (Next bytes)) → AtMostOne (OfFile most o Next)
+over_file most None Next one a b p q = p ∙ sym q
+over_file most (Some bytes) Next one a b p q = by_size bytes Next (one bytes) (nat_lt most (length bytes)) a b p q
+
+over_sources : (sources : List Source) (Over : List (List ℕ) → Answer → Type 0) → ((files : List (List ℕ)) → AtMostOne (Over files)) → (files : Files)
+    → AtMostOne (OfSources sources Over files)
+over_sources [] Over one files a b p q = one [] a b p q
+over_sources (s ∷ sources) Over one files a b p q =
+    over_file s.most (file_of files s.name) (λ bytes c. OfSources sources (λ others d. Over (bytes ∷ others) d) files c)
+    (λ bytes. over_sources sources (λ others d. Over (bytes ∷ others) d) (λ others. one (bytes ∷ others)) files) a b p q
+
+over_form : (form : Form) (files : List (List ℕ)) → AtMostOne (IsAnswerOver form files)
+over_form (TextOf command file) files a b p q = p ∙ sym q
+over_form (ProveOf file) files a b p q = p ∙ sym q
+over_form (CheckOf log None) files a b p q = checked_one (get_or files 0 []) a b p q
+over_form (CheckOf log (Some file)) files a b p q = of_problems_one (get_or files 1 []) (get_or files 0 []) (stated_in (get_or files 1 [])) a b p q
+
+pub one_answer : (form : Option Form) (files : Files) (a b : Answer) → IsAnswer form files a → IsAnswer form files b → a ≡ b
+one_answer None files a b p q = p ∙ sym q
+one_answer (Some form) files a b p q = over_sources (sources_of form) (IsAnswerOver form) (over_form form) files a b p q

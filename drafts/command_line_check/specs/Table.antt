@@ -1,0 +1,104 @@
+-- The table of forms: what the words of a command line ask for, and what the program answers over the files that they name.
+use Rattle.std.specs.Prelude.{◌≡◌, ℕ, List, [], ◌∷◌, length, get_or, map, Option, Some, None, true, false, cond, nat_lt, codes}
+use Rattle.std.specs.Str.{bytes_eq}
+use Rattle.desk_io.specs.Files.{Files, file_of}
+use Rattle.gcl_reader.specs.declared.limits.TheConstants.{MOST_BYTES}
+use Rattle.poly_model.specs.declared.limits.TheConstants.{MOST_LOG_BYTES}
+use Rattle.command_line.specs.Answer.{Answer, usage, read_fault, too_large, text_answer, answer_from}
+use Rattle.command_line.specs.Command.{Command}
+use Rattle.command_line.specs.Pipeline.{svg_of, latex_of, system_of, show_of}
+use Rattle.command_line.specs.Proving.{proofs_of, proved}
+use Rattle.command_line.specs.Checking.{IsChecked, IsCheckedAgainst}
+
+-- ---- forms
+-- A form of the command line, with its words behind the first.
+pub data Form : Type 0 where
+  TextOf : Command → (file : List ℕ) → Form  -- a text that a command makes of a file
+  ProveOf : (file : List ℕ) → Form  -- the log of a file's proofs
+  CheckOf : (log : List ℕ) → (file : Option (List ℕ)) → Form  -- whether a log is accepted, and has a file's problems
+
+-- A file that a form names, and the most bytes that it may have.
+pub record Source : Type 0 where
+  pub name : List ℕ
+  pub most : ℕ
+
+abbrev pub source : List ℕ → ℕ → Source
+source name most = record { name = name; most = most }
+
+-- The files of a form, in the order in which they are read.
+abbrev pub sources_of : Form → List Source
+sources_of (TextOf command file) = source file MOST_BYTES ∷ []
+sources_of (ProveOf file) = source file MOST_BYTES ∷ []
+sources_of (CheckOf log None) = source log MOST_LOG_BYTES ∷ []
+sources_of (CheckOf log (Some file)) = source log MOST_LOG_BYTES ∷ source file MOST_BYTES ∷ []
+
+-- ---- answers over the bytes of the files
+-- The answer of a form over the bytes of its files.
+abbrev pub IsAnswerOver : Form → List (List ℕ) → Answer → Type 0
+IsAnswerOver (TextOf command file) files a = a ≡ answer_from text_answer (get_or files 0 []) (command (get_or files 0 []))
+IsAnswerOver (ProveOf file) files a = a ≡ answer_from proved (get_or files 0 []) (proofs_of (get_or files 0 []))
+IsAnswerOver (CheckOf log None) files a = IsChecked (get_or files 0 []) a
+IsAnswerOver (CheckOf log (Some file)) files a = IsCheckedAgainst (get_or files 0 []) (get_or files 1 []) a
+
+-- The answer over a file of at most so many bytes: what comes next sees the bytes.
+abbrev pub OfFile : ℕ → Option (List ℕ) → (List ℕ → Answer → Type 0) → Answer → Type 0
+OfFile most None Next a = a ≡ read_fault
+OfFile most (Some bytes) Next a = elim (nat_lt most (length bytes)) [ true ↦ a ≡ too_large | false ↦ Next bytes a ]
+
+-- The answer over several files, which are read one after another: the first that cannot be read, or is too large,
+-- decides.
+abbrev pub OfSources : List Source → (List (List ℕ) → Answer → Type 0) → Files → Answer → Type 0
+OfSources [] Over files a = Over [] a
+OfSources (s ∷ sources) Over files a =
+    OfFile s.most (file_of files s.name) (λ bytes b. OfSources sources (λ others c. Over (bytes ∷ others) c) files b) a
+
+-- ---- rows
+-- A row: the first word, and the form that it begins with the words behind it, where there is one.
+pub record Row : Type 0 where
+  pub word : List ℕ
+  pub form : List (List ℕ) → Option Form
+
+-- The words behind the first are the name of a file.
+abbrev pub one_file : (List ℕ → Form) → List (List ℕ) → Option Form
+one_file form [] = None
+one_file form (name ∷ []) = Some (form name)
+one_file form (name ∷ other ∷ words) = None
+
+-- They are the name of a log, and of a file where there are two.
+abbrev pub log_and_file : List (List ℕ) → Option Form
+log_and_file [] = None
+log_and_file (log ∷ []) = Some (CheckOf log None)
+log_and_file (log ∷ file ∷ []) = Some (CheckOf log (Some file))
+log_and_file (log ∷ file ∷ other ∷ words) = None
+
+-- All forms.
+abbrev pub rows : List Row
+rows =
+    record { word = codes "svg"; form = one_file (TextOf svg_of) }
+    ∷ record { word = codes "latex"; form = one_file (TextOf latex_of) }
+    ∷ record { word = codes "system"; form = one_file (TextOf system_of) }
+    ∷ record { word = codes "show"; form = one_file (TextOf show_of) }
+    ∷ record { word = codes "prove"; form = one_file ProveOf }
+    ∷ record { word = codes "check"; form = log_and_file }
+    ∷ []
+
+-- The form that a first word begins, by the first row that has it.
+abbrev pub form_in : List Row → List ℕ → List (List ℕ) → Option Form
+form_in [] word words = None
+form_in (row ∷ rows) word words = cond (bytes_eq word row.word) (row.form words) (form_in rows word words)
+
+-- The form of the words of a command line; nothing where they are none.
+abbrev pub form_of : List (List ℕ) → Option Form
+form_of [] = None
+form_of (word ∷ words) = form_in rows word words
+
+-- ---- the answer
+-- What the program answers to a form over files.
+abbrev pub IsAnswer : Option Form → Files → Answer → Type 0
+IsAnswer None files a = a ≡ usage
+IsAnswer (Some form) files a = OfSources (sources_of form) (IsAnswerOver form) files a
+
+-- The names of the files that a form reads.
+abbrev pub names_of : Option Form → List (List ℕ)
+names_of None = []
+names_of (Some form) = map (λ (s : Source). s.name) (sources_of form)

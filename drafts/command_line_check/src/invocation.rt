@@ -1,0 +1,78 @@
+// The words of the command line.
+ghost use Rattle.std.specs.Prelude.{◌≡◌, map};
+ghost use Rattle.std.specs.String.{string_bytes};
+ghost use Rattle.command_line.specs.Table.{form_of};
+ghost use Rattle.command_line.specs.Forms.{form_seen};
+
+/// The forms that make a text of one file.
+#[derive(Clone, Copy, Debug, PartialEq, Eq)]
+pub enum TextForm {
+    Svg,
+    Latex,
+    System,
+    Show,
+}
+
+/// What the words ask for.
+#[derive(Clone, Copy)]
+pub enum Invocation<'a> {
+    /// They are no form of the command line.
+    Wrong,
+    /// A text of the file of a name.
+    Text(TextForm, &'a str),
+    /// The log of a file's proofs.
+    Prove(&'a str),
+    /// Whether a log is accepted.
+    Check(&'a str),
+    /// And whether its problems are those of a file.
+    CheckAgainst(&'a str, &'a str),
+}
+
+// A form that makes a text, with the words behind its first.
+fn read_text(form: TextForm, names: &[String]) -> Invocation<'_>
+    ensures { form_seen result ≡ one_file (TextOf (command_of form)) (map string_bytes names.now) }
+{
+    match names {
+        [name] => Invocation::Text(form, name.as_str()),
+        _ => Invocation::Wrong,
+    }
+}
+
+// `prove`, with the words behind it.
+fn read_prove(names: &[String]) -> Invocation<'_>
+    ensures { form_seen result ≡ one_file ProveOf (map string_bytes names.now) }
+{
+    match names {
+        [name] => Invocation::Prove(name.as_str()),
+        _ => Invocation::Wrong,
+    }
+}
+
+// `check`, with the words behind it.
+fn read_check(names: &[String]) -> Invocation<'_>
+    ensures { form_seen result ≡ log_and_file (map string_bytes names.now) }
+{
+    match names {
+        [log] => Invocation::Check(log.as_str()),
+        [log, file] => Invocation::CheckAgainst(log.as_str(), file.as_str()),
+        _ => Invocation::Wrong,
+    }
+}
+
+/// Takes the words after the program's name apart. A name may be any word, also one that begins with `-`.
+pub fn read_command(words: &[String]) -> Invocation<'_>
+    ensures { form_seen result ≡ form_of (map string_bytes words.now) }
+{
+    let [word, names @ ..] = words else {
+        return Invocation::Wrong;
+    };
+    match word.as_str() {
+        "svg" => read_text(TextForm::Svg, names),
+        "latex" => read_text(TextForm::Latex, names),
+        "system" => read_text(TextForm::System, names),
+        "show" => read_text(TextForm::Show, names),
+        "prove" => read_prove(names),
+        "check" => read_check(names),
+        _ => Invocation::Wrong,
+    }
+}
