@@ -29,6 +29,7 @@ pub use line_reading::read_line;
 pub use line_writing::write_verdict;
 pub use log::{Log, Proof};
 pub use reader::{LogFault, LogReader};
+pub use words::word_text;
 pub use writing::write_log;
 
 #[cfg(test)]

@@ -10,7 +10,8 @@ use poly_model::{OwnedPoly, Row};
 use proof_steps::{LeafStatus, Outcome, Path, Piece, Tree};
 use std::alloc::{AllocError, Global};
 
-fn has_minus(path: &Path) -> bool
+/// Whether the path leaves the generic branch.
+pub fn has_minus(path: &Path) -> bool
     ensures { result ≡ has_minus path.now }
 {
     for i in 0..path.len() {
@@ -21,7 +22,8 @@ fn has_minus(path: &Path) -> bool
     false
 }
 
-fn plus_part(path: &Path) -> Path
+/// The part of the path along the generic branch: its letters before the first `-`.
+pub fn plus_part(path: &Path) -> Path
     ensures { result ≡ plus_part path.now }
 {
     let mut part = Path::root();
@@ -107,7 +109,8 @@ fn has_polynomial(polynomials: &[OwnedPoly], p: &OwnedPoly) -> bool
     polynomials.iter().any(|q| p == q)
 }
 
-fn add_condition(
+/// Adds a condition, unless it is there.
+pub fn add_condition(
     alloc: Global,
     conditions: &mut Vec<OwnedPoly>,
     gain: &OwnedPoly,
@@ -136,7 +139,8 @@ fn conditions(alloc: Global, pieces: &[Piece]) -> Result<Vec<OwnedPoly>, AllocEr
     Ok(found)
 }
 
-fn under(conditions: Vec<OwnedPoly>) -> Verdict
+/// The verdict of a generic leaf that proves the conclusions, under these conditions.
+pub fn under(conditions: Vec<OwnedPoly>) -> Verdict
     ensures { result ≡ under conditions.items }
 {
     if conditions.is_empty() {
