@@ -17,10 +17,10 @@ fn main(rt: HostRuntime) -> Result<()> {
         number = number.saturating_add(1);
         match line.strip_prefix("from ") {
             Some(name) => table.put(&fs::read(&rt, name)?)?,
-            None => table.take(number, line)?,
+            None => table.take(&rt, number, line)?,
         }
     }
-    let (good, bad) = table.end()?;
+    let (good, bad) = table.end(&rt)?;
     for line in bad.as_slice() {
         println!(rt; "line {line}: another answer")?;
     }
