@@ -86,7 +86,7 @@ impl Table {
     }
 
     // Takes a line of a word, a number and a text, and tells whether it is one: `times N TEXT` adds N lines of the text, in
-    // which `#` is the line's number, from 1; `line N TEXT` puts the text in place of the N-th line of the last file, and
+    // which `#` is the line's number, from 0; `line N TEXT` puts the text in place of the N-th line of the last file, and
     // `lines N M` leaves out the lines from the N-th to the M-th.
     fn counted(&mut self, word: &str, value: &str) -> Result<bool, AllocError> {
         let Some((count, text)) = value.split_once(" ") else {
