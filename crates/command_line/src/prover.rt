@@ -18,9 +18,13 @@ use std::thread::Threads;
 
 /// Gives the log of a program.
 pub trait Prover {
+    /// What has to hold of the prover's types: whoever starts threads shares the runtime with them.
+    ghost ready: { Type 0 };
+
     /// The log of a sound program.
     fn prove(&self, alloc: Global, program: &Program) -> Result<Log, GclFault>
-        requires { IsSound program.now }
+        requires ready { ready }
+        requires sound { IsSound program.now }
         ensures log { Gives (λ log. log.proofs) result (log_of_program program.now.acts) }
         ensures whole { IfOk result (λ log. IsWhole VERSION log.proofs) };
 }
@@ -29,6 +33,10 @@ pub trait Prover {
 pub struct Alone;
 
 impl Prover for Alone {
+    ghost use Rattle.std.specs.Prelude.{⊤};
+
+    ghost ready = { ⊤ };
+
     fn prove(&self, alloc: Global, program: &Program) -> Result<Log, GclFault> {
         prove_one(alloc, program)
     }
@@ -42,6 +50,10 @@ pub struct Together<'a, R> {
 }
 
 impl<R: Threads + Wait + Sync> Prover for Together<'_, R> {
+    ghost use Rattle.std.specs.Thread.{IsSync};
+
+    ghost ready = { IsSync R.row };
+
     fn prove(&self, alloc: Global, program: &Program) -> Result<Log, GclFault> {
         prove_many(alloc, self.rt, program, self.workers.count, &Open)
     }

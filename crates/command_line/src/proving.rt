@@ -26,7 +26,8 @@ use verdicts::Verdict;
 // The log of a file.
 #[tactic(auto, unfolding(crate::specs::Proving::proofs_of))]
 fn prove_file<P: Prover>(prover: &P, alloc: Global, bytes: &[u8]) -> Result<Log, GclFault>
-    requires { length bytes.now ≤ MOST_BYTES }
+    requires ready { P.ready }
+    requires fits { length bytes.now ≤ MOST_BYTES }
     ensures value { Gives (λ log. log.proofs) result (proofs_of bytes.now) }
     ensures whole { IfOk result (λ log. IsWhole VERSION log.proofs) }
 {
@@ -105,7 +106,8 @@ pub fn put_file_proofs<P: Prover, S: Sink, N: Sink>(
     out: &mut S,
     notes: &mut N,
 ) -> Status
-    requires { length bytes.now ≤ MOST_BYTES }
+    requires ready { P.ready }
+    requires fits { length bytes.now ≤ MOST_BYTES }
     ensures ends { Ends (answer_from proved bytes.now (proofs_of bytes.now))
         (S.written out.old) (S.written out.new) (N.written notes.old) (N.written notes.new) result }
     ensures write_fault { result ≡ Status.WriteFault

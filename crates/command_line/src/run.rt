@@ -141,6 +141,7 @@ fn proofs_answered<P: Prover, K: Desk, S: Sink, N: Sink>(
     out: &mut S,
     notes: &mut N,
 ) -> Status
+    requires { P.ready }
     ensures answered { Answers (K.held desk.old) (Rose (K.faults desk.old) (K.faults desk.new))
         (IsAnswer (Some (ProveOf name.now)))
         (S.written out.old) (S.written out.new) (N.written notes.old) (N.written notes.new) result }
@@ -170,6 +171,7 @@ fn proofs_run<P: Prover, K: Desk, S: Sink, N: Sink>(
     out: &mut S,
     notes: &mut N,
 ) -> Status
+    requires { P.ready }
     ensures run { IsRun (views K.held K.faults S.written S.faults N.written N.faults)
         (lent desk.old out.old notes.old) (lent desk.new out.new notes.new)
         (Some (ProveOf name.now)) result }

@@ -100,7 +100,11 @@ impl Case {
     }
 
     /// Runs the program, and tells whether it ends with the status and the bytes that are to come.
-    pub fn comes_out<R: Threads + Wait + Sync>(self, rt: &R, alloc: Global) -> Result<bool, AllocError> {
+    pub fn comes_out<R: Threads + Wait + Sync>(
+        self,
+        rt: &R,
+        alloc: Global,
+    ) -> Result<bool, AllocError> {
         let mut desk = MemDesk::new(self.files, vec![in alloc; self.read]?);
         let mut out = MemSink::new(alloc, self.room, vec![in alloc; self.put]?)?;
         let mut notes = MemSink::new(alloc, self.notes_room, vec![in alloc; 2]?)?;
