@@ -13,6 +13,7 @@ mod ending;
 mod fault;
 mod gathering;
 mod laws;
+mod leaf;
 mod lists;
 mod node;
 mod open;
