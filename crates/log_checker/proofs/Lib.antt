@@ -14,3 +14,4 @@ pub mod Exact
 mod Listing
 mod Dues
 mod Chains
+mod Ends

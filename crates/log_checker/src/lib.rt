@@ -9,6 +9,7 @@ mod checker;
 mod checking;
 mod children;
 mod due;
+mod end;
 mod ending;
 mod fault;
 mod gathering;
@@ -20,8 +21,10 @@ mod piece;
 mod reads;
 mod rows;
 mod rules;
+mod tally;
 mod triangular;
 mod within;
+mod within_standin;
 
 pub use against::check_against;
 pub use check::check_log;
