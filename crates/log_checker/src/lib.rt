@@ -9,6 +9,7 @@ mod checker;
 mod checking;
 mod children;
 mod due;
+mod end;
 mod ending;
 mod fault;
 mod gathering;
@@ -21,6 +22,7 @@ mod piece;
 mod reads;
 mod rows;
 mod rules;
+mod tally;
 mod triangular;
 mod within;
 
