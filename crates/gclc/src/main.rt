@@ -25,6 +25,6 @@ fn main(rt: HostRuntime) -> ExitCode {
         // Words that are no text are no form of the command line, and neither are none.
         Err(_) => Vec::new(alloc),
     };
-    let mut desk = RealDesk::new(rt);
-    exit_code(gclc_run(alloc, &words, &mut desk, &mut out, &mut notes))
+    let mut desk = RealDesk::new(&rt);
+    exit_code(gclc_run(&rt, alloc, &words, &mut desk, &mut out, &mut notes))
 }
