@@ -67,7 +67,7 @@ fn main(rt: HostRuntime) -> Result<()> {
     let program = program_of(alloc, &fs::read(&rt, "altitudes.gcl")?)?;
     let text = fs::read(&rt, "altitudes.log")?;
     let paths = paths_of(alloc, &prove_one(alloc, &program)?)?;
-    let mut good = 0;
+    let mut good: u32 = 0;
     for (worker, until) in [
         (1, Until::AnotherPassed),
         (2, Until::AnotherPassed),
@@ -77,7 +77,7 @@ fn main(rt: HostRuntime) -> Result<()> {
         let hold = Hold::new(worker, until, &paths);
         let log = prove_many(alloc, &rt, &program, 2, &hold)?;
         if hold.went_well() && text_of(alloc, &log)? == text {
-            good += 1;
+            good = good.saturating_add(1);
         }
     }
     println!(rt; "{good} of 4 runs")?;
