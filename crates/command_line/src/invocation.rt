@@ -1,7 +1,7 @@
 // The words of the command line.
 ghost use Rattle.std.specs.Prelude.{◌≡◌, map};
 ghost use Rattle.std.specs.String.{string_bytes};
-ghost use Rattle.command_line.specs.Table.{TextOf, ProveOf, one_file, form_of};
+ghost use Rattle.command_line.specs.Table.{TextOf, ProveOf, one_file, log_and_file, form_of};
 ghost use Rattle.command_line.specs.Forms.{command_of, form_seen};
 
 /// The forms that make a text of one file.
@@ -22,6 +22,8 @@ pub enum Invocation<'a> {
     Text(TextForm, &'a str),
     /// The log of a file's proofs.
     Prove(&'a str),
+    /// Whether a log is accepted, and whether it has the problems of a file, where one is named.
+    Check(&'a str, Option<&'a str>),
 }
 
 // A form that makes a text, with the words behind its first.
@@ -44,6 +46,17 @@ fn read_prove(names: &[String]) -> Invocation<'_>
     }
 }
 
+// `check`, with the words behind it.
+fn read_check(names: &[String]) -> Invocation<'_>
+    ensures { form_seen result ≡ log_and_file (map string_bytes names.now) }
+{
+    match names {
+        [log] => Invocation::Check(log.as_str(), None),
+        [log, file] => Invocation::Check(log.as_str(), Some(file.as_str())),
+        _ => Invocation::Wrong,
+    }
+}
+
 /// Takes the words after the program's name apart. A name may be any word, also one that begins with `-`.
 pub fn read_command(words: &[String]) -> Invocation<'_>
     ensures { form_seen result ≡ form_of (map string_bytes words.now) }
@@ -57,6 +70,7 @@ pub fn read_command(words: &[String]) -> Invocation<'_>
         "system" => read_text(TextForm::System, names),
         "show" => read_text(TextForm::Show, names),
         "prove" => read_prove(names),
+        "check" => read_check(names),
         _ => Invocation::Wrong,
     }
 }

@@ -1,6 +1,7 @@
 // A run of the program, and what is to come of it.
 use command_line::gclc_run;
 use desk_io::{MemDesk, MemSink};
+use poly_model::Gaussian;
 use std::alloc::{AllocError, Global};
 
 /// What of a run the lines of a table add to.
@@ -74,7 +75,7 @@ impl Case {
         let mut desk = MemDesk::new(self.files, vec![in alloc; self.read]?);
         let mut out = MemSink::new(alloc, self.room, vec![in alloc; self.put]?)?;
         let mut notes = MemSink::new(alloc, self.notes_room, vec![in alloc; 2]?)?;
-        let status = gclc_run(alloc, &self.words, &mut desk, &mut out, &mut notes);
+        let status = gclc_run(alloc, &Gaussian, &self.words, &mut desk, &mut out, &mut notes);
         Ok(
             status as u8 == self.status
                 && out.bytes() == self.out.as_slice()
