@@ -1,5 +1,5 @@
 -- The table of forms: what the words of a command line ask for, and what the program answers over the files that they name.
-use Rattle.std.specs.Prelude.{◌≡◌, ℕ, List, [], ◌∷◌, length, get_or, map, Option, Some, None, true, false, cond, nat_lt, codes}
+use Rattle.std.specs.Prelude.{◌≡◌, ℕ, ◌+◌, List, [], ◌∷◌, length, get_or, map, Option, Some, None, true, false, cond, nat_lt, codes}
 use Rattle.std.specs.Str.{bytes_eq}
 use Rattle.desk_io.specs.Files.{Files, file_of}
 use Rattle.gcl_reader.specs.declared.limits.TheConstants.{MOST_BYTES}
@@ -68,7 +68,35 @@ one_file form [] = None
 one_file form (name ∷ []) = Some (form name)
 one_file form (name ∷ other ∷ words) = None
 
--- They are the name of a log, and that of a file, if there is one.
+-- The numbers of workers: decimal, from 1 to 16.
+abbrev pub worker_counts : List (List ℕ)
+worker_counts =
+    codes "1" ∷ codes "2" ∷ codes "3" ∷ codes "4" ∷ codes "5" ∷ codes "6" ∷ codes "7" ∷ codes "8"
+    ∷ codes "9" ∷ codes "10" ∷ codes "11" ∷ codes "12" ∷ codes "13" ∷ codes "14" ∷ codes "15" ∷ codes "16" ∷ []
+
+-- The number of the word among these, which are numbered from k on.
+abbrev pub number_in : List (List ℕ) → ℕ → List ℕ → Option ℕ
+number_in [] k word = None
+number_in (w ∷ words) k word = cond (bytes_eq word w) (Some k) (number_in words (k + 1) word)
+
+-- The number of workers that a word tells.
+abbrev pub worker_count : List ℕ → Option ℕ
+worker_count word = number_in worker_counts 1 word
+
+-- A file's log does not depend on the number of its workers.
+abbrev pub proved_by : List ℕ → Option ℕ → Option Form
+proved_by file None = None
+proved_by file (Some count) = Some (ProveOf file)
+
+-- The words behind `prove`: the name of a file, and how many workers there are, if that is told.
+abbrev pub prove_words : List (List ℕ) → Option Form
+prove_words [] = None
+prove_words (file ∷ []) = Some (ProveOf file)
+prove_words (file ∷ option ∷ []) = None
+prove_words (file ∷ option ∷ count ∷ []) = cond (bytes_eq option (codes "--workers")) (proved_by file (worker_count count)) None
+prove_words (file ∷ option ∷ count ∷ other ∷ words) = None
+
+-- The words behind `check`: the name of a log, and that of a file, if there is one.
 abbrev pub log_and_file : List (List ℕ) → Option Form
 log_and_file [] = None
 log_and_file (log ∷ []) = Some (CheckOf log None)
@@ -82,7 +110,7 @@ rows =
     ∷ record { word = codes "latex"; form = one_file (TextOf latex_of) }
     ∷ record { word = codes "system"; form = one_file (TextOf system_of) }
     ∷ record { word = codes "show"; form = one_file (TextOf show_of) }
-    ∷ record { word = codes "prove"; form = one_file ProveOf }
+    ∷ record { word = codes "prove"; form = prove_words }
     ∷ record { word = codes "check"; form = log_and_file }
     ∷ []
 

@@ -1,8 +1,10 @@
 // The words of the command line.
 ghost use Rattle.std.specs.Prelude.{◌≡◌, map};
 ghost use Rattle.std.specs.String.{string_bytes};
-ghost use Rattle.command_line.specs.Table.{TextOf, ProveOf, one_file, log_and_file, form_of};
+ghost use Rattle.command_line.specs.Table.{TextOf, one_file, log_and_file, form_of, prove_words, proved_by, worker_count};
 ghost use Rattle.command_line.specs.Forms.{command_of, form_seen};
+
+use crate::workers::{Workers, worker_count};
 
 /// The forms that make a text of one file.
 #[derive(Clone, Copy, Debug, PartialEq, Eq)]
@@ -22,6 +24,8 @@ pub enum Invocation<'a> {
     Text(TextForm, &'a str),
     /// The log of a file's proofs.
     Prove(&'a str),
+    /// The same, by workers who do each proof together.
+    ProveTogether(&'a str, Workers),
     /// Whether a log is accepted, and whether it has the problems of a file, where one is named.
     Check(&'a str, Option<&'a str>),
 }
@@ -36,12 +40,25 @@ fn read_text(form: TextForm, names: &[String]) -> Invocation<'_>
     }
 }
 
-// `prove`, with the words behind it.
-fn read_prove(names: &[String]) -> Invocation<'_>
-    ensures { form_seen result ≡ one_file ProveOf (map string_bytes names.now) }
+// `prove` of a file, by as many workers as a word tells.
+fn read_together<'a>(name: &'a str, count: &str) -> Invocation<'a>
+    ensures { form_seen result ≡ proved_by name.now (worker_count count.now) }
 {
-    match names {
+    match worker_count(count) {
+        Some(count) => Invocation::ProveTogether(name, Workers { count }),
+        None => Invocation::Wrong,
+    }
+}
+
+// `prove`, with the words behind it.
+fn read_prove(words: &[String]) -> Invocation<'_>
+    ensures { form_seen result ≡ prove_words (map string_bytes words.now) }
+{
+    match words {
         [name] => Invocation::Prove(name.as_str()),
+        [name, option, count] if option.as_str() == "--workers" => {
+            read_together(name.as_str(), count.as_str())
+        }
         _ => Invocation::Wrong,
     }
 }

@@ -11,11 +11,13 @@ mod invocation;
 mod laws;
 mod note;
 mod pipeline;
+mod prover;
 mod proving;
 mod run;
 mod stage;
 mod status;
 mod verdict_lines;
+mod workers;
 
 pub use check::check_run;
 pub use laws::answers_are_unique;

@@ -26,6 +26,8 @@ fn main(rt: HostRuntime) -> ExitCode {
         // Words that are no text are no form of the command line, and neither are none.
         Err(_) => Vec::new(alloc),
     };
-    let mut desk = RealDesk::new(rt);
-    exit_code(gclc_run(alloc, &Gaussian, &words, &mut desk, &mut out, &mut notes))
+    let mut desk = RealDesk::new(&rt);
+    exit_code(gclc_run(
+        &rt, alloc, &Gaussian, &words, &mut desk, &mut out, &mut notes,
+    ))
 }

@@ -3,6 +3,8 @@ use command_line::gclc_run;
 use desk_io::{MemDesk, MemSink};
 use poly_model::Gaussian;
 use std::alloc::{AllocError, Global};
+use std::sync::Wait;
+use std::thread::Threads;
 
 /// What of a run the lines of a table add to.
 #[derive(Clone, Copy)]
@@ -70,12 +72,52 @@ impl Case {
         Ok(())
     }
 
+    /// Puts a text in place of the lines between two numbers, from 1 and both among them, of the last file.
+    pub fn change_lines(
+        &mut self,
+        alloc: Global,
+        first: u64,
+        last: u64,
+        text: &str,
+    ) -> Result<(), AllocError> {
+        let Some(file) = self.files.last_mut() else {
+            return Ok(());
+        };
+        let mut changed = Vec::new(alloc);
+        let mut number: u64 = 1;
+        for byte in file.1.iter() {
+            if number < first || number > last {
+                changed.push(*byte)?;
+            }
+            if *byte == b'\n' {
+                if number == last {
+                    changed.extend_from_slice(text.as_bytes())?;
+                }
+                number = number.saturating_add(1);
+            }
+        }
+        file.1 = changed;
+        Ok(())
+    }
+
     /// Runs the program, and tells whether it ends with the status and the bytes that are to come.
-    pub fn comes_out(self, alloc: Global) -> Result<bool, AllocError> {
+    pub fn comes_out<R: Threads + Wait + Sync>(
+        self,
+        rt: &R,
+        alloc: Global,
+    ) -> Result<bool, AllocError> {
         let mut desk = MemDesk::new(self.files, vec![in alloc; self.read]?);
         let mut out = MemSink::new(alloc, self.room, vec![in alloc; self.put]?)?;
         let mut notes = MemSink::new(alloc, self.notes_room, vec![in alloc; 2]?)?;
-        let status = gclc_run(alloc, &Gaussian, &self.words, &mut desk, &mut out, &mut notes);
+        let status = gclc_run(
+            rt,
+            alloc,
+            &Gaussian,
+            &self.words,
+            &mut desk,
+            &mut out,
+            &mut notes,
+        );
         Ok(
             status as u8 == self.status
                 && out.bytes() == self.out.as_slice()
