@@ -3,16 +3,19 @@ use Rattle.std.specs.Prelude.{◌≡◌, ℕ, ◌+◌, List, [], ◌∷◌, leng
 use Rattle.std.specs.Str.{bytes_eq}
 use Rattle.desk_io.specs.Files.{Files, file_of}
 use Rattle.gcl_reader.specs.declared.limits.TheConstants.{MOST_BYTES}
+use Rattle.poly_model.specs.declared.limits.TheConstants.{MOST_LOG_BYTES}
 use Rattle.command_line.specs.Answer.{Answer, usage, read_fault, too_large, text_answer, answer_from}
 use Rattle.command_line.specs.Command.{Command}
 use Rattle.command_line.specs.Pipeline.{svg_of, latex_of, system_of, show_of}
 use Rattle.command_line.specs.Proving.{proofs_of, proved}
+use Rattle.command_line.specs.Checking.{IsChecked, IsCheckedAgainst}
 
 -- ---- forms
 -- A form of the command line, with its words behind the first.
 pub data Form : Type 0 where
   TextOf : Command → (file : List ℕ) → Form  -- a text that a command makes of a file
   ProveOf : (file : List ℕ) → Form  -- the log of a file's proofs
+  CheckOf : (log : List ℕ) → (file : Option (List ℕ)) → Form  -- whether a log is accepted, and has a file's problems
 
 -- A file that a form names, and the most bytes that it may have.
 pub record Source : Type 0 where
@@ -26,12 +29,16 @@ source name most = record { name = name; most = most }
 abbrev pub sources_of : Form → List Source
 sources_of (TextOf command file) = source file MOST_BYTES ∷ []
 sources_of (ProveOf file) = source file MOST_BYTES ∷ []
+sources_of (CheckOf log None) = source log MOST_LOG_BYTES ∷ []
+sources_of (CheckOf log (Some file)) = source log MOST_LOG_BYTES ∷ source file MOST_BYTES ∷ []
 
 -- ---- answers over the bytes of the files
 -- The answer of a form over the bytes of its files.
 abbrev pub IsAnswerOver : Form → List (List ℕ) → Answer → Type 0
 IsAnswerOver (TextOf command file) files a = a ≡ answer_from text_answer (get_or files 0 []) (command (get_or files 0 []))
 IsAnswerOver (ProveOf file) files a = a ≡ answer_from proved (get_or files 0 []) (proofs_of (get_or files 0 []))
+IsAnswerOver (CheckOf log None) files a = IsChecked (get_or files 0 []) a
+IsAnswerOver (CheckOf log (Some file)) files a = IsCheckedAgainst (get_or files 0 []) (get_or files 1 []) a
 
 -- The answer over a file of at most so many bytes: what comes next sees the bytes.
 abbrev pub OfFile : ℕ → Option (List ℕ) → (List ℕ → Answer → Type 0) → Answer → Type 0
@@ -89,6 +96,13 @@ prove_words (file ∷ option ∷ []) = None
 prove_words (file ∷ option ∷ count ∷ []) = cond (bytes_eq option (codes "--workers")) (proved_by file (worker_count count)) None
 prove_words (file ∷ option ∷ count ∷ other ∷ words) = None
 
+-- The words behind `check`: the name of a log, and that of a file, if there is one.
+abbrev pub log_and_file : List (List ℕ) → Option Form
+log_and_file [] = None
+log_and_file (log ∷ []) = Some (CheckOf log None)
+log_and_file (log ∷ file ∷ []) = Some (CheckOf log (Some file))
+log_and_file (log ∷ file ∷ other ∷ words) = None
+
 -- All forms.
 abbrev pub rows : List Row
 rows =
@@ -97,6 +111,7 @@ rows =
     ∷ record { word = codes "system"; form = one_file (TextOf system_of) }
     ∷ record { word = codes "show"; form = one_file (TextOf show_of) }
     ∷ record { word = codes "prove"; form = prove_words }
+    ∷ record { word = codes "check"; form = log_and_file }
     ∷ []
 
 -- The form that a first word begins, by the first row that has it.

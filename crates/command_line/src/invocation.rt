@@ -1,7 +1,7 @@
 // The words of the command line.
 ghost use Rattle.std.specs.Prelude.{◌≡◌, map};
 ghost use Rattle.std.specs.String.{string_bytes};
-ghost use Rattle.command_line.specs.Table.{TextOf, one_file, form_of, prove_words, proved_by, worker_count};
+ghost use Rattle.command_line.specs.Table.{TextOf, one_file, log_and_file, form_of, prove_words, proved_by, worker_count};
 ghost use Rattle.command_line.specs.Forms.{command_of, form_seen};
 
 use crate::workers::{Workers, worker_count};
@@ -26,6 +26,8 @@ pub enum Invocation<'a> {
     Prove(&'a str),
     /// The same, by workers who do each proof together.
     ProveTogether(&'a str, Workers),
+    /// Whether a log is accepted, and whether it has the problems of a file, where one is named.
+    Check(&'a str, Option<&'a str>),
 }
 
 // A form that makes a text, with the words behind its first.
@@ -61,6 +63,17 @@ fn read_prove(words: &[String]) -> Invocation<'_>
     }
 }
 
+// `check`, with the words behind it.
+fn read_check(names: &[String]) -> Invocation<'_>
+    ensures { form_seen result ≡ log_and_file (map string_bytes names.now) }
+{
+    match names {
+        [log] => Invocation::Check(log.as_str(), None),
+        [log, file] => Invocation::Check(log.as_str(), Some(file.as_str())),
+        _ => Invocation::Wrong,
+    }
+}
+
 /// Takes the words after the program's name apart. A name may be any word, also one that begins with `-`.
 pub fn read_command(words: &[String]) -> Invocation<'_>
     ensures { form_seen result ≡ form_of (map string_bytes words.now) }
@@ -74,6 +87,7 @@ pub fn read_command(words: &[String]) -> Invocation<'_>
         "system" => read_text(TextForm::System, names),
         "show" => read_text(TextForm::Show, names),
         "prove" => read_prove(names),
+        "check" => read_check(names),
         _ => Invocation::Wrong,
     }
 }

@@ -1,14 +1,15 @@
 // The top call, and the call of each form.
-ghost use Rattle.std.specs.Prelude.{◌≡◌, ◌≤◌, ◌⊎◌, List, ℕ, [], ◌∷◌, None, Some, map};
+ghost use Rattle.std.specs.Prelude.{◌≡◌, ◌≤◌, ◌⊎◌, List, ℕ, [], ◌∷◌, Option, None, Some, map};
 ghost use Rattle.std.specs.String.{string_bytes};
 ghost use Rattle.desk_io.specs.Causes.{Rose};
 ghost use Rattle.desk_io.specs.Files.{Lacks};
-ghost use Rattle.command_line.specs.Table.{IsAnswer, TextOf, ProveOf, form_of};
+ghost use Rattle.command_line.specs.Table.{IsAnswer, TextOf, ProveOf, CheckOf, form_of};
 ghost use Rattle.command_line.specs.Command.{Command};
-ghost use Rattle.command_line.specs.Contract.{IsRun, IsTextRun, IsProofRun, IsQuiet, lent, views};
+ghost use Rattle.command_line.specs.Contract.{IsRun, IsTextRun, IsProofRun, IsCheckRun, IsQuiet, lent, views};
 ghost use Rattle.command_line.specs.Pipeline.{svg_of, latex_of, system_of, show_of};
 ghost use Rattle.command_line.specs.Run.{Answers};
 
+use crate::check::check_run;
 use crate::invocation::{Invocation, TextForm, read_command};
 use crate::pipeline::{LatexCommand, ShowCommand, SvgCommand, SystemCommand};
 use crate::prover::{Alone, Prover, Together};
@@ -17,6 +18,7 @@ use crate::stage::{TextCommand, fetch, put_file, say};
 use crate::status::Status;
 use desk_io::{Desk, Sink};
 use gcl_reader::MOST_BYTES;
+use poly_model::Domain;
 use std::alloc::Global;
 use std::sync::Wait;
 use std::thread::Threads;
@@ -196,12 +198,13 @@ pub fn prove_one_run<K: Desk, S: Sink, N: Sink>(
     proofs_run::<Alone, K, S, N>(&Alone, alloc, name, desk, out, notes)
 }
 
-/// What the program does with the words after its name.
+/// What the program does with the words after its name. What a check of a log has shown is told in the domain.
 ///
 /// `prove FILE --workers N` has workers do each proof together, also where N is 1; no other form starts a thread.
-pub fn gclc_run<R: Threads + Wait + Sync, K: Desk, S: Sink, N: Sink>(
+pub fn gclc_run<R: Threads + Wait + Sync, D: Domain, K: Desk, S: Sink, N: Sink>(
     rt: &R,
     alloc: Global,
+    domain: &D,
     words: &[String],
     desk: &mut K,
     out: &mut S,
@@ -215,6 +218,8 @@ pub fn gclc_run<R: Threads + Wait + Sync, K: Desk, S: Sink, N: Sink>(
         → IsTextRun (lent desk.old out.old notes.old) (lent desk.new out.new notes.new) result }
     ensures proofs { (name : List ℕ) → form_of (map string_bytes words.now) ≡ Some (ProveOf name)
         → IsProofRun result }
+    ensures checked { (log : List ℕ) (file : Option (List ℕ))
+        → form_of (map string_bytes words.now) ≡ Some (CheckOf log file) → IsCheckRun file result }
 {
     match read_command(words) {
         Invocation::Text(TextForm::Svg, name) => svg_run(alloc, name, desk, out, notes),
@@ -225,6 +230,7 @@ pub fn gclc_run<R: Threads + Wait + Sync, K: Desk, S: Sink, N: Sink>(
         Invocation::ProveTogether(name, workers) => {
             proofs_run(&Together { rt, workers }, alloc, name, desk, out, notes)
         }
+        Invocation::Check(log, file) => check_run(alloc, domain, log, file, desk, out, notes),
         Invocation::Wrong => say(USAGE, Status::Usage, notes),
     }
 }

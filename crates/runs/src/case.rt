@@ -1,6 +1,7 @@
 // A run of the program, and what is to come of it.
 use command_line::gclc_run;
 use desk_io::{MemDesk, MemSink};
+use poly_model::Gaussian;
 use std::alloc::{AllocError, Global};
 use std::sync::Wait;
 use std::thread::Threads;
@@ -108,7 +109,15 @@ impl Case {
         let mut desk = MemDesk::new(self.files, vec![in alloc; self.read]?);
         let mut out = MemSink::new(alloc, self.room, vec![in alloc; self.put]?)?;
         let mut notes = MemSink::new(alloc, self.notes_room, vec![in alloc; 2]?)?;
-        let status = gclc_run(rt, alloc, &self.words, &mut desk, &mut out, &mut notes);
+        let status = gclc_run(
+            rt,
+            alloc,
+            &Gaussian,
+            &self.words,
+            &mut desk,
+            &mut out,
+            &mut notes,
+        );
         Ok(
             status as u8 == self.status
                 && out.bytes() == self.out.as_slice()
