@@ -15,3 +15,4 @@ mod Listing
 mod Dues
 mod Chains
 mod Ends
+mod Leaves

@@ -14,7 +14,7 @@ use crate::ending::Ending;
 use crate::node::with_fuel;
 use crate::piece::Inside;
 use crate::tally::Tally;
-use crate::within_standin::line_within;
+use crate::within::line_within;
 use poly_model::{MOST_FUEL, OwnedPoly, Row};
 use proof_log::LogLine;
 use proof_steps::{Node, Path};

@@ -14,6 +14,7 @@ mod ending;
 mod fault;
 mod gathering;
 mod laws;
+mod leaf;
 mod lists;
 mod node;
 mod open;
@@ -24,7 +25,6 @@ mod rules;
 mod tally;
 mod triangular;
 mod within;
-mod within_standin;
 
 pub use against::check_against;
 pub use check::check_log;
