@@ -14,5 +14,5 @@ pub mod Exact
 mod Listing
 mod Dues
 mod Chains
-mod Ends
 mod Leaves
+mod Ends
