@@ -10,7 +10,7 @@ use Rattle.proof_steps.specs.Reasons.{same_reason}
 use Rattle.proof_steps.specs.Chain as chain
 use Rattle.proof_steps.specs.Chain.{chain_reason, is_step, due_of}
 use Rattle.proof_steps.specs.declared.piece.ChainStep.{ChainStep}
-use Rattle.log_checker.specs.Fitting.{Inside, Work, Chaining, Ended, listed, where_fits, where_whole, by_chain, in_chain, chain_row, unreduced_row}
+use Rattle.log_checker.specs.Fitting.{Inside, Work, Chaining, Ended, listed, where_fits, where_whole, chain_row, unreduced_row}
 use Rattle.log_checker.specs.Turns.{is_reduce, IsTurn, Comes, conclusion, stop_in}
 use Rattle.log_checker.specs.Views.{eqs_due, nes_due, listing}
 use Rattle.log_checker.specs.declared.piece.Lists.{Lists}

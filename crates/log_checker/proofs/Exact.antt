@@ -2,9 +2,9 @@
 use Rattle.std.proofs.Common.{◌≡◌, ◌≢◌, ℕ, ◌+◌, List, [], ◌∷◌, ◌++◌, length, refl, sym, ◌∙◌, ap, arith, Option, Some, None, append_assoc, append-nil, subst, length-append, inl, inr, ◌⊎◌, true}
 use Rattle.poly_model.specs.Names.{are_variables}
 use Rattle.poly_model.specs.declared.vars.VarName.{VarName}
-use Rattle.proof_log.specs.Grammar.{IsFront, IsWhole, IsUnended, Begins, Refuses, EndsEarly, names_behind}
+use Rattle.proof_log.specs.Grammar.{IsFront, IsUnended, Begins, Refuses, EndsEarly, names_behind}
 use Rattle.proof_log.specs.Lines.{log_lines}
-use Rattle.proof_log.specs.Text.{row_of, line_text, names_after, text_of, IsLine, AreLines}
+use Rattle.proof_log.specs.Text.{row_of, line_text, names_after, text_of, AreLines}
 use Rattle.proof_log.specs.declared.line.LogLine.{LogLine}
 use Rattle.proof_log.specs.declared.line.LineWord.{LineWord}
 use Rattle.proof_log.specs.declared.log.Proof.{Proof}

@@ -1,5 +1,5 @@
 -- What is due of the conclusions at a system, and what comes of it.
-use Rattle.std.specs.Prelude.{◌≡◌, ◌≤◌, ◌<◌, ◌-◌, ℕ, suc, ℤ, List, [], ◌∷◌, length, drop, get_or, Bool, true, false, Option, Some, None, Result, Ok, Err}
+use Rattle.std.specs.Prelude.{◌≡◌, ◌≤◌, ◌<◌, ◌-◌, ℕ, suc, ℤ, List, [], length, drop, get_or, Bool, true, false, Option, Some, None, Result, Ok, Err}
 use Rattle.poly_model.specs.Polynomial.{Polynomial}
 use Rattle.poly_model.specs.Reduction.{class_of, reaches, reduction_of}
 use Rattle.proof_steps.specs.Chain as chain

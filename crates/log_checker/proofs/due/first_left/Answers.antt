@@ -1,4 +1,4 @@
-use Rattle.std.proofs.Common.{◌≡◌, length, [], ◌∙◌, ap, get_or, arith}
+use Rattle.std.proofs.Common.{length, [], ◌∙◌, ap, arith}
 use Rattle.log_checker.proofs.Dues as dues
 use Rattle.log_checker.proofs.due.first_left.Goals as goal
 

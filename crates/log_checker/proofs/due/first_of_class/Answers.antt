@@ -1,4 +1,4 @@
-use Rattle.std.proofs.Common.{◌∙◌, sym, ap, []}
+use Rattle.std.proofs.Common.{◌∙◌, ap, []}
 use Rattle.poly_model.specs.Reduction.{class_of}
 use Rattle.log_checker.proofs.Dues as dues
 use Rattle.log_checker.proofs.due.first_of_class.Goals as goal

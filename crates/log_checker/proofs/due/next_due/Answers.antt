@@ -1,5 +1,4 @@
-use Rattle.std.proofs.Common.{◌≡◌, [], ◌∙◌, ap}
-use Rattle.std.specs.Prelude.{IfSome}
+use Rattle.std.proofs.Common.{[], ◌∙◌, ap}
 use Rattle.proof_steps.specs.Chain.{reducing_class}
 use Rattle.log_checker.proofs.Dues as dues
 use Rattle.log_checker.proofs.due.next_due.Goals as goal

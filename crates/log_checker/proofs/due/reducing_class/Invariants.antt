@@ -1,6 +1,4 @@
 use Rattle.std.proofs.Common.{◌≡◌, ◌≤◌, length, max}
-use Rattle.std.specs.Prelude.{if◌then◌else◌}
-use Rattle.poly_model.specs.Reduction.{class_of, reaches}
 use Rattle.poly_model.specs.declared.limits.TheConstants.{MOST_VARIABLES}
 use Rattle.proof_steps.specs.Chain.{reducing_class}
 use Rattle.log_checker.proofs.due.reducing_class.Given as goal

@@ -1,7 +1,7 @@
 use Rattle.std.proofs.Common.{◌∙◌, ap, sym}
 use Rattle.std.specs.Prelude.{Some, None, if◌then◌else◌}
 use Rattle.log_checker.specs.Fitting.{end_of}
-use Rattle.log_checker.specs.Views.{eqs_due, nes_due, inside_view, chain_work}
+use Rattle.log_checker.specs.Views.{eqs_due, nes_due, inside_view}
 use Rattle.log_checker.proofs.Ends as ends
 use Rattle.log_checker.proofs.end.end_of.Goals as goal
 
