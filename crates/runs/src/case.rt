@@ -69,6 +69,34 @@ impl Case {
         Ok(())
     }
 
+    /// Puts a text in place of the lines between two numbers, from 1 and both among them, of the last file.
+    pub fn change_lines(
+        &mut self,
+        alloc: Global,
+        first: u64,
+        last: u64,
+        text: &str,
+    ) -> Result<(), AllocError> {
+        let Some(file) = self.files.last_mut() else {
+            return Ok(());
+        };
+        let mut changed = Vec::new(alloc);
+        let mut number: u64 = 1;
+        for byte in file.1.iter() {
+            if number < first || number > last {
+                changed.push(*byte)?;
+            }
+            if *byte == b'\n' {
+                if number == last {
+                    changed.extend_from_slice(text.as_bytes())?;
+                }
+                number = number.saturating_add(1);
+            }
+        }
+        file.1 = changed;
+        Ok(())
+    }
+
     /// Runs the program, and tells whether it ends with the status and the bytes that are to come.
     pub fn comes_out(self, alloc: Global) -> Result<bool, AllocError> {
         let mut desk = MemDesk::new(self.files, vec![in alloc; self.read]?);

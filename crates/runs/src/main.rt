@@ -1,5 +1,5 @@
-//! Whole runs of the program, as a table: runs each row over files and sinks in memory, and names the rows that come out
-//! otherwise than the table says.
+//! Whole runs of the program, as tables: runs each row over files and sinks in memory, and names the rows that come out
+//! otherwise than their table says.
 #![tactic(auto)]
 
 mod case;
@@ -9,21 +9,28 @@ use anyhow::Result;
 use std::fs;
 use table::Table;
 
-fn main(rt: HostRuntime) -> Result<()> {
-    let text = fs::read_to_string(&rt, "runs.txt")?;
+// Runs the rows of a table, and gives the number of those that came out as it says.
+fn run_table(rt: &HostRuntime, name: &str) -> Result<u32> {
+    let text = fs::read_to_string(rt, name)?;
     let mut table = Table::new(rt.alloc());
     let mut number: u32 = 0;
     for line in text.lines() {
         number = number.saturating_add(1);
         match line.strip_prefix("from ") {
-            Some(name) => table.put(&fs::read(&rt, name)?)?,
+            Some(name) => table.put(&fs::read(rt, name)?)?,
             None => table.take(number, line)?,
         }
     }
     let (good, bad) = table.end()?;
     for line in bad.as_slice() {
-        println!(rt; "line {line}: another answer")?;
+        println!(rt; "{name}, line {line}: another answer")?;
     }
-    println!(rt; "{good} runs as the table says")?;
+    Ok(good)
+}
+
+fn main(rt: HostRuntime) -> Result<()> {
+    let runs = run_table(&rt, "runs.txt")?;
+    let logs = run_table(&rt, "logs.txt")?;
+    println!(rt; "{runs} runs and {logs} over logs as the tables say")?;
     Ok(())
 }

@@ -73,24 +73,46 @@ impl Table {
             "room" => case.room = value.parse().unwrap_or(0),
             "saying" => case.notes_room = value.parse().unwrap_or(0),
             "percents" => case.fill(self.part, number)?,
-            _ => return self.repeat(word, value),
+            _ => return self.counted(word, value),
         }
         Ok(true)
     }
 
-    // `times N TEXT`: N lines of the text, in which `#` is the line's number, from 1.
-    fn repeat(&mut self, word: &str, value: &str) -> Result<bool, AllocError> {
+    // Takes a line of a word, a number and a text, and tells whether it is one: `times N TEXT` adds N lines of the text, in
+    // which `#` is the line's number, from 0; `line N TEXT` puts the text in place of the N-th line of the last file, and
+    // `lines N M` leaves out the lines from the N-th to the M-th.
+    fn counted(&mut self, word: &str, value: &str) -> Result<bool, AllocError> {
         let Some((count, text)) = value.split_once(" ") else {
             return Ok(false);
         };
-        let count: u32 = count.parse().unwrap_or(0);
+        let number: u64 = count.parse().unwrap_or(0);
+        match word {
+            "times" => self.repeat(number, text)?,
+            "line" => {
+                let line = format!(in self.alloc; "{text}\n")?;
+                self.change_lines(number, number, line.as_str())?;
+            }
+            "lines" => self.change_lines(number, text.parse().unwrap_or(0), "")?,
+            _ => return Ok(false),
+        }
+        Ok(true)
+    }
+
+    fn repeat(&mut self, count: u64, text: &str) -> Result<(), AllocError> {
         for k in 0..count {
             let number = k.to_string(self.alloc)?;
             let line = text.replace(self.alloc, "#", number.as_str())?;
             self.put(line.as_bytes())?;
             self.put(b"\n")?;
         }
-        Ok(word == "times")
+        Ok(())
+    }
+
+    fn change_lines(&mut self, first: u64, last: u64, text: &str) -> Result<(), AllocError> {
+        match &mut self.case {
+            Some(case) => case.change_lines(self.alloc, first, last, text),
+            None => Ok(()),
+        }
     }
 
     // Runs the case that is read, if there is one.
