@@ -43,9 +43,14 @@ before-prove : (before after : List Act) (prove : Act) → is_prove prove.deed �
 unfolding acts_before
 before-prove [] after prove e = ap (λ b. if b then (if 0 == 0 then 0 else acts_before (0 - 1) after + 1) else acts_before 0 after + 1) e
 before-prove (a ∷ before) after prove e = by (is_prove a.deed) (before-prove before after prove e) where
-  by : (b : Bool) → acts_before (proves_in before) (before ++ prove ∷ after) ≡ length before
-      → (if b then (if ((if b then 1 else 0) + proves_in before) == 0 then 0 else acts_before (((if b then 1 else 0) + proves_in before) - 1) (before ++ prove ∷ after) + 1)
-        else acts_before ((if b then 1 else 0) + proves_in before) (before ++ prove ∷ after) + 1) ≡ suc (length before)
+  acts : List Act
+  acts = before ++ prove ∷ after
+
+  here : Bool → ℕ
+  here b = (if b then 1 else 0) + proves_in before
+
+  by : (b : Bool) → acts_before (proves_in before) acts ≡ length before
+      → (if b then (if here b == 0 then 0 else acts_before (here b - 1) acts + 1) else acts_before (here b) acts + 1) ≡ suc (length before)
   by true h = grind (arith, h)
   by false h = grind (arith, h)
 
@@ -113,10 +118,25 @@ all-at P [] b x h = h.0
 all-at P (y ∷ a) b x h = all-at P a b x h.1
 
 abbrev pub AllMean : {M : Type 0} → Operations M → Type 0
-AllMean o = (acts : List Act) (s : Statement) (points : List ℕ) → length (layout_of acts).variables ≤ MOST_VARIABLES → Mean o acts s points (equations_of acts s points)
+AllMean o =
+    (acts : List Act) (s : Statement) (points : List ℕ) → length (layout_of acts).variables ≤ MOST_VARIABLES
+    → Mean o acts s points (equations_of acts s points)
 
 abbrev stated_by : List Proof → List Equations
 stated_by proofs = map equations (problems_in proofs)
+
+-- the problem of a proof is that of the prove of its number
+proof-problem : (acts : List Act) (proofs earlier later : List Proof) (p : Proof) → problems_of acts ≡ Ok (stated_by proofs)
+    → proofs ≡ earlier ++ p ∷ later → problem_of acts (length earlier) ≡ Ok (equations p.problem)
+proof-problem acts proofs earlier later p stated parts =
+    let cut : stated_by proofs ≡ stated_by earlier ++ equations p.problem ∷ stated_by later =
+    ap stated_by parts ∙ ap (map equations) (map-cut (λ (q : Proof). q.problem) earlier later p)
+    ∙ map-cut equations (problems_in earlier) (problems_in later) p.problem in
+    let a = length-map earlier (λ (q : Proof). q.problem) in
+    let b = length-map (problems_in earlier) equations in
+    let there : length earlier ≡ 0 + length (stated_by earlier) = omega (arith, a, b) in
+    ap (problem_of acts) there
+    ∙ problems-item acts (proves_in acts) 0 (stated_by proofs) (stated_by earlier) (stated_by later) (equations p.problem) stated cut
 
 -- The verdicts of a log with the problems of these acts hold of their figures.
 pub figures_hold : {M : Type 0} (o : Operations M) → AllMean o → (acts : List Act) (proofs : List Proof)
@@ -129,20 +149,20 @@ figures_hold o means acts proofs stated assured = record { many = many; each = e
       let c = problems-length acts (proves_in acts) 0 (stated_by proofs) stated in
       omega (arith, a, b, c)
 
-  each : (before after : List Act) (prove : Act) (s : Statement) (points : List ℕ) → acts ≡ before ++ prove ∷ after → prove.deed ≡ deed.Prove s points
+  one : (earlier later : List Proof) (p : Proof) → proofs ≡ earlier ++ p ∷ later → IsAssuredProof o p
+  one earlier later p parts =
+      let all = subst (All (IsAssuredProof o)) parts assured in
+      all-at (IsAssuredProof o) earlier later p (recursion_from_All (IsAssuredProof o) (earlier ++ p ∷ later) all)
+
+  each : (before after : List Act) (prove : Act) (s : Statement) (points : List ℕ)
+      → acts ≡ before ++ prove ∷ after → prove.deed ≡ deed.Prove s points
       → (earlier later : List Proof) (p : Proof) → proofs ≡ earlier ++ p ∷ later → length earlier ≡ proves_in before
       → FigureClaims o before s points p.verdict
   each before after prove s points is asks earlier later p parts place =
-      let cut : stated_by proofs ≡ stated_by earlier ++ equations p.problem ∷ stated_by later =
-          ap stated_by parts ∙ ap (map equations) (map-cut (λ (q : Proof). q.problem) earlier later p)
-          ∙ map-cut equations (problems_in earlier) (problems_in later) p.problem in
-      let a = length-map earlier (λ (q : Proof). q.problem) in
-      let b = length-map (problems_in earlier) equations in
-      let there : 0 + length (stated_by earlier) ≡ proves_in before = omega (arith, a, b, place) in
-      let found : problem_of acts (proves_in before) ≡ Ok (equations p.problem) =
-          ap (problem_of acts) (sym there)
-          ∙ problems-item acts (proves_in acts) 0 (stated_by proofs) (stated_by earlier) (stated_by later) (equations p.problem) stated cut in
-      let given = equations-given before prove s points (equations p.problem)
-          (sym (ap (λ l. problem_of l (proves_in before)) is ∙ problem-behind before after prove s points asks) ∙ found) in
-      let one = all-at (IsAssuredProof o) earlier later p (recursion_from_All (IsAssuredProof o) (earlier ++ p ∷ later) (subst (All (IsAssuredProof o)) parts assured)) in
-      figure_claims o before s points p.problem p.verdict (subst (Mean o before s points) (sym given.1) (means before s points given.0)) one.claims
+      let found = proof-problem acts proofs earlier later p stated parts in
+      let behind = problem-behind before after prove s points asks in
+      let same : problem_at before prove s points ≡ Ok (equations p.problem) =
+      sym behind ∙ ap (λ l. problem_of l (proves_in before)) (sym is) ∙ ap (problem_of acts) (sym place) ∙ found in
+      let given = equations-given before prove s points (equations p.problem) same in
+      let mean = subst (Mean o before s points) (sym given.1) (means before s points given.0) in
+      figure_claims o before s points p.problem p.verdict mean (one earlier later p parts).claims

@@ -92,7 +92,7 @@ problem-posed acts k e sized lt h =
     let at = prove-at acts k lt in
     let found = ap (problem_of (at.before ++ at.prove ∷ at.after)) at.place ∙ ap (λ l. problem_of l k) (sym at.parts) ∙ h in
     let given = equations-given at.before at.prove at.statement at.points e
-        (sym (problem-behind at.before at.after at.prove at.statement at.points at.asks) ∙ found) in
+    (sym (problem-behind at.before at.after at.prove at.statement at.points at.asks) ∙ found) in
     let front = front-sized at.before (at.prove ∷ at.after) (subst AllSized at.parts sized) in
     let is : equations (logs.problem_of e) ≡ equations_of at.before at.statement at.points = given.1 in
     record {
@@ -131,7 +131,7 @@ program-sure program proofs sound h =
     let es = bind-ok (problems_of program.acts) _ proofs h in
     let problems = map logs.problem_of es.0 in
     let posed = All-from_recursion IsPosed problems
-        (problems-posed program.acts (sound-sized nothing program.acts sound.follow) (proves_in program.acts) 0 es.0 (omega arith) es.1) in
+    (problems-posed program.acts (sound-sized nothing program.acts sound.follow) (proves_in program.acts) 0 es.0 (omega arith) es.1) in
     let few = few-problems program sound problems (es.1 ∙ ap Ok (again es.0)) in
     subst IsSure (ok-is es.2) record {
       accepted = logs-accepted VERSION problems few (λ k d lt. (posed k d lt).stated);

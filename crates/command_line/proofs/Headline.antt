@@ -139,8 +139,8 @@ record WasProved (bytes : List ℕ) (a : Answer) : Type 0 where
   made : proofs_of bytes ≡ Ok proofs
   is : a ≡ proved proofs
 
-was_proved : (bytes : List ℕ) (made : Result (List Proof) Refusal) (a : Answer) → proofs_of bytes ≡ made → a ≡ answer_from proved bytes made → IsWritten a.status
-    → WasProved bytes a
+was_proved : (bytes : List ℕ) (made : Result (List Proof) Refusal) (a : Answer) → proofs_of bytes ≡ made
+    → a ≡ answer_from proved bytes made → IsWritten a.status → WasProved bytes a
 was_proved bytes (Ok proofs) a of e log = record { proofs = proofs; made = of; is = e }
 was_proved bytes (Err refusal) a of e (inl s) = let h = sym (ap (λ (b : Answer). b.status) e) ∙ s in cc
 was_proved bytes (Err refusal) a of e (inr s) = let h = sym (ap (λ (b : Answer). b.status) e) ∙ s in cc
@@ -159,13 +159,13 @@ proved_assured files file log a h has there =
     let fits = subst (λ b. nat_lt MOST_LOG_BYTES (length b) ≡ false) out (not_longer (length (log_text proofs)) MOST_LOG_BYTES sure.whole.bytes) in
     let answer : assured_so a.notes ≡ answer_to (Accepted proofs) = ap (λ (b : Answer). assured_so b.notes) p.is in
     let alone : IsChecked a.out (assured_so a.notes) = record { finding = Accepted proofs; found = found; answer = answer } in
-    let stated = log-stated r.bytes proofs p.made in
-    let against : IsComparedWith (Ok (map equations (problems_in proofs))) a.out r.bytes (assured_so a.notes) =
-        record { finding = Accepted proofs; found = found; answer = inl (refl, answer) } in
-    (
+    let told = assured_so a.notes in
+    let against : IsComparedWith (Ok (map equations (problems_in proofs))) a.out r.bytes told =
+    record { finding = Accepted proofs; found = found; answer = inl (refl, answer) } in
+    let compared = subst (λ s. IsComparedWith s a.out r.bytes told) (sym (log-stated r.bytes proofs p.made)) against in (
       of_bytes MOST_LOG_BYTES (file_of files log) a.out _ _ there fits alone,
       of_bytes MOST_LOG_BYTES (file_of files log) a.out _ _ there fits
-      (of_bytes MOST_BYTES (file_of files file) r.bytes _ _ r.held r.fits (subst (λ s. IsComparedWith s a.out r.bytes (assured_so a.notes)) (sym stated) against)),
+          (of_bytes MOST_BYTES (file_of files file) r.bytes _ _ r.held r.fits compared),
     )
 
 -- ---- the headline
@@ -201,8 +201,8 @@ module _ {M : Type 0} (o : Operations M) (cover : TreesCover o) (hold : Verdicts
       subst (λ b. IsAssuredOf o b source) (same_bytes _ r.bytes bytes r.held held)
       (subst (IsAssuredOf o r.bytes) (same_bytes _ q.bytes source q.held kept) of_both)
 
-  file_proved : (files : Files) (file source : List ℕ) (a : Answer) → IsAnswer (Some (ProveOf file)) files a → IsWritten a.status → file_of files file ≡ Some source
-      → ProvesOf o source
+  file_proved : (files : Files) (file source : List ℕ) (a : Answer) → IsAnswer (Some (ProveOf file)) files a → IsWritten a.status
+      → file_of files file ≡ Some source → ProvesOf o source
   file_proved files file source a h written held =
       let r = was_read MOST_BYTES (file_of files file) _ a h written in
       let p = was_proved r.bytes (proofs_of r.bytes) a refl r.next written in

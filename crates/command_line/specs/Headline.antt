@@ -16,7 +16,7 @@ use Rattle.command_line.specs.declared.status.Status.TheVariants.{Done, Unproved
 abbrev pub ProvesOf : {M : Type 0} → Operations M → List ℕ → Type 0
 ProvesOf o source = (proofs : List Proof) × (proofs_of source ≡ Ok proofs) × IsAssuredOf o (log_text proofs) source
 
--- A log was written, or an answer that is done.
+-- The text was written whole, though some statement of it may not be proved.
 abbrev pub IsWritten : Status → Type 0
 IsWritten status = (status ≡ Done) ⊎ (status ≡ Unproved)
 
@@ -26,21 +26,27 @@ IsWritten status = (status ≡ Done) ⊎ (status ≡ Unproved)
 abbrev pub Headline : {M : Type 0} → Operations M → Option Form → Option Files → Status → Type 0
 Headline o None held status = Unit {0}
 Headline o (Some (TextOf command file)) held status = Unit {0}
-Headline o (Some (ProveOf file)) held status = IsWritten status → (source : List ℕ) → Holds held file source → ProvesOf o source
-Headline o (Some (CheckOf log None)) held status = status ≡ Done → (bytes : List ℕ) → Holds held log bytes → IsAssuredLog o bytes
+Headline o (Some (ProveOf file)) held status =
+    IsWritten status → (source : List ℕ) → Holds held file source → ProvesOf o source
+Headline o (Some (CheckOf log None)) held status =
+    status ≡ Done → (bytes : List ℕ) → Holds held log bytes → IsAssuredLog o bytes
 Headline o (Some (CheckOf log (Some file))) held status =
     status ≡ Done → (bytes source : List ℕ) → Holds held log bytes → Holds held file source → IsAssuredOf o bytes source
 
 -- Where the desk tells its files, the status is that of the answer over them, or a fault.
 abbrev pub IsDecided : Option Form → Option Files → Status → Type 0
-IsDecided form held status = (files : Files) → held ≡ Some files → ((a : Answer) × IsAnswer form files a × (status ≡ a.status)) ⊎ IsFault status
+IsDecided form held status =
+    (files : Files) → held ≡ Some files → ((a : Answer) × IsAnswer form files a × (status ≡ a.status)) ⊎ IsFault status
 
 -- The answer that tells these verdicts, and that they are assured.
 abbrev pub assured_so : List ℕ → Answer
 assured_so verdicts = text_answer (verdicts ++ codes "assured\n")
 
--- The log that `prove` writes of a file is assured by `check`, alone and against the file, with the verdicts that `prove` told.
+-- The log that `prove` writes of a file, `check` assures, by itself and against the file, and tells the verdicts that
+-- `prove` told.
 abbrev pub ProvedIsAssured : Type 0
 ProvedIsAssured =
-    (files : Files) (file log : List ℕ) (a : Answer) → IsAnswer (Some (ProveOf file)) files a → IsWritten a.status → file_of files log ≡ Some a.out
-    → IsAnswer (Some (CheckOf log None)) files (assured_so a.notes) × IsAnswer (Some (CheckOf log (Some file))) files (assured_so a.notes)
+    (files : Files) (file log : List ℕ) (a : Answer) → IsAnswer (Some (ProveOf file)) files a → IsWritten a.status
+    → file_of files log ≡ Some a.out
+    → IsAnswer (Some (CheckOf log None)) files (assured_so a.notes)
+    × IsAnswer (Some (CheckOf log (Some file))) files (assured_so a.notes)
