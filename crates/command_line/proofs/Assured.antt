@@ -1,5 +1,5 @@
 -- Each proof of an accepted log is assured, and its text is that of no other.
-use Rattle.std.proofs.Common.{◌≡◌, ℕ, ◌/◌, List, [], ◌∷◌, length, All, sym, ◌∙◌, subst}
+use Rattle.std.proofs.Common.{ℕ, ◌/◌, List, [], ◌∷◌, length, sym, ◌∙◌, subst}
 use Rattle.std.specs.List.{AllByRecursion}
 use Rattle.std.proofs.lemmas.List.Elements.{All-from_recursion}
 use Rattle.poly_model.specs.Domain.{Operations}

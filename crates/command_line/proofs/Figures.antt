@@ -1,20 +1,17 @@
 -- What the verdicts of a log with a program's problems say of the program's figures.
-use Rattle.std.proofs.Common.{◌≡◌, ◌≤◌, ◌<◌, ◌+◌, ◌-◌, ◌==◌, ℕ, zero, suc, List, [], ◌∷◌, ◌++◌, length, length-append, map, take, drop, All, Result, Ok, Err, Bool, true, false, if◌then◌else◌, refl, sym, ◌∙◌, ap, subst, arith}
+use Rattle.std.proofs.Common.{◌≡◌, ◌≤◌, ◌+◌, ◌-◌, ◌==◌, ℕ, zero, suc, List, [], ◌∷◌, ◌++◌, length, length-append, map, take, drop, All, Ok, Bool, true, false, if◌then◌else◌, refl, sym, ◌∙◌, ap, subst, arith}
 use Rattle.std.specs.List.{AllByRecursion}
 use Rattle.std.proofs.lemmas.List.{length-map}
 use Rattle.std.proofs.lemmas.List.Elements.{recursion_from_All}
 use Rattle.poly_model.specs.Domain.{Operations}
 use Rattle.poly_model.specs.declared.limits.TheConstants.{MOST_VARIABLES}
-use Rattle.gcl_reader.specs.Grammar.{◌>>=◌}
-use Rattle.gcl_reader.specs.declared.refusal.Refusal.{Refusal}
 use Rattle.gcl_reader.specs.declared.word.Statement.{Statement}
 use Rattle.gcl_reader.proofs.Bind.{bind-ok, ok-is}
 use Rattle.gcl_names.specs.declared.program.Act.{Act}
-use Rattle.gcl_names.specs.declared.program.Deed.{Deed}
 use Rattle.gcl_names.specs.declared.program.Deed.TheVariants as deed
 use Rattle.algebraize.specs.Equations.{Equations, equations_of, Mean}
 use Rattle.algebraize.specs.Formed.{equations}
-use Rattle.algebraize.specs.Layout.{Layout, layout_of}
+use Rattle.algebraize.specs.Layout.{layout_of}
 use Rattle.algebraize.specs.Problem.{is_prove, acts_before, laid_out, problem_at, problem_of_deed, problem_between, problem_of, problems_from, problems_of, proves_in}
 use Rattle.algebraize.proofs.Proves.{laid_out-ok}
 use Rattle.proof_steps.specs.declared.problem.Problem.{Problem}

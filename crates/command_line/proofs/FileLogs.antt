@@ -1,7 +1,6 @@
 -- The log of a file's proves is accepted, and can be written whole.
 use Rattle.std.proofs.Common.{◌≡◌, ◌≤◌, ◌<◌, ◌+◌, ◌/◌, ℕ, zero, suc, List, [], ◌∷◌, ◌++◌, map, length, Bool, true, false, if◌then◌else◌, Ok, refl, sym, ◌∙◌, ap, subst, arith}
 use Rattle.std.specs.List.{AllByRecursion}
-use Rattle.std.specs.Prelude.{All, IsTrue}
 use Rattle.std.proofs.lemmas.List.Elements.{All-from_recursion}
 use Rattle.gcl_reader.specs.Grammar.{◌>>=◌, file_of}
 use Rattle.gcl_reader.specs.Tokens.{lexed}
@@ -18,7 +17,6 @@ use Rattle.gcl_names.specs.declared.program.Program.{Program}
 use Rattle.gcl_names.proofs.SoundActs.{resolved-sound}
 use Rattle.poly_model.specs.Names.{are_variables}
 use Rattle.poly_model.specs.declared.limits.TheConstants.{MOST_FUEL}
-use Rattle.proof_steps.specs.Stated.{IsStated}
 use Rattle.proof_steps.specs.declared.problem.Problem.{Problem}
 use Rattle.algebraize.specs.Equations.{Equations, equations_of}
 use Rattle.algebraize.specs.Formed.{equations}

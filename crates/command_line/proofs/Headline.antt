@@ -1,12 +1,11 @@
 -- A check that is done is of an assured log, and what `prove` writes is assured.
-use Rattle.std.proofs.Common.{◌≡◌, ◌≤◌, ◌⊎◌, ℕ, List, [], ◌∷◌, ◌++◌, length, map, Option, None, Some, Result, Ok, Err, Bool, true, false, nat_lt, inl, inr, refl, sym, ◌∙◌, ap, subst, arith, codes}
+use Rattle.std.proofs.Common.{◌≡◌, ◌≤◌, ◌⊎◌, ℕ, List, [], ◌∷◌, length, map, Option, None, Some, Result, Ok, Err, Bool, true, false, nat_lt, inl, inr, refl, sym, ◌∙◌, ap, subst, arith}
 use Rattle.std.specs.List.{AllByRecursion}
 use Rattle.std.proofs.lemmas.Bool.Decides.{nat_tests}
 use Rattle.std.proofs.lemmas.List.Elements.{recursion_from_All}
 use Rattle.poly_model.specs.Domain.{Operations}
 use Rattle.poly_model.specs.declared.limits.TheConstants.{MOST_LOG_BYTES}
 use Rattle.desk_io.specs.Files.{Files, Holds, file_of}
-use Rattle.gcl_reader.specs.Grammar.{◌>>=◌}
 use Rattle.gcl_reader.specs.declared.limits.TheConstants.{MOST_BYTES}
 use Rattle.gcl_reader.specs.declared.refusal.Refusal.{Refusal}
 use Rattle.gcl_reader.proofs.Bind.{bind-ok}
@@ -20,15 +19,15 @@ use Rattle.proof_log.specs.declared.limits.TheConstants.{VERSION}
 use Rattle.proof_log.specs.declared.log.Proof.{Proof}
 use Rattle.log_checker.specs.Answers.{Finding, Accepted, Malformed, Rejected, IsFound, IsAcceptedText}
 use Rattle.prove_run.specs.Whole.{HasCounts}
-use Rattle.command_line.specs.Answer.{Answer, read_fault, too_large, text_answer, answer_from}
+use Rattle.command_line.specs.Answer.{Answer, read_fault, too_large, answer_from}
 use Rattle.command_line.specs.Assured.{IsAssuredLog}
 use Rattle.command_line.specs.Checking.{answer_to, IsChecked, HasProblems, IsCompared, IsComparedWith, stated_in}
 use Rattle.command_line.specs.Contract.{IsFault}
-use Rattle.command_line.specs.Figures.{FiguresHold, IsAssuredOf}
+use Rattle.command_line.specs.Figures.{IsAssuredOf}
 use Rattle.command_line.specs.Headline.{Headline, IsDecided, IsWritten, ProvesOf, assured_so, ProvedIsAssured}
 use Rattle.command_line.specs.Proving.{proofs_of, log_text, proved}
-use Rattle.command_line.specs.Table.{Form, TextOf, ProveOf, CheckOf, OfFile, IsAnswerOver, IsAnswer}
-use Rattle.command_line.specs.VerdictLines.{problems_in, verdicts_in}
+use Rattle.command_line.specs.Table.{Form, TextOf, ProveOf, CheckOf, OfFile, IsAnswer}
+use Rattle.command_line.specs.VerdictLines.{problems_in}
 use Rattle.command_line.specs.declared.status.Status.{Status}
 use Rattle.command_line.specs.declared.status.Status.TheVariants.{Done}
 use Rattle.command_line.proofs.Assured.{spelled, log_assured}

@@ -1,12 +1,12 @@
 -- The equations of a sound program's proves are within the limits.
-use Rattle.std.proofs.Common.{rules, ◌≡◌, ◌≤◌, ◌+◌, ◌*◌, ℕ, zero, suc, List, [], ◌∷◌, ◌++◌, get_or, map, take, refl, sym, ◌∙◌, ap, arith, true}
+use Rattle.std.proofs.Common.{rules, ◌≡◌, ◌≤◌, ◌+◌, ℕ, zero, suc, List, [], ◌∷◌, ◌++◌, get_or, map, refl, ◌∙◌, ap, arith, true}
 use Rattle.std.specs.Prelude.{ℤ, pos, unsigned_abs}
 use Rattle.std.specs.List.{list_all}
 use Rattle.std.specs.Cmp.Derive.{both_true}
-use Rattle.poly_model.specs.Polynomial.{Polynomial, poly_difference, poly_negative, poly_product, poly_sum}
+use Rattle.poly_model.specs.Polynomial.{Polynomial, poly_difference, poly_product, poly_sum}
 use Rattle.poly_model.specs.Content.{primitive_part}
 use Rattle.poly_model.specs.Standard.{is_standard}
-use Rattle.poly_model.specs.declared.limits.TheConstants.{MOST_DEGREE, MOST_SIZE, MOST_VARIABLES}
+use Rattle.poly_model.specs.declared.limits.TheConstants.{MOST_DEGREE, MOST_SIZE}
 use Rattle.proof_steps.specs.Stated.{IsWithinLimits}
 use Rattle.proof_steps.specs.declared.problem.Problem.{Problem}
 use Rattle.gcl_reader.specs.declared.word.Statement.{Statement}
