@@ -16,7 +16,7 @@ use Rattle.algebraize.specs.Small.{are_at_most, is_low}
 abbrev pub every : (List ℕ → Bool) → Polynomial → Bool
 every test = list_all (λ entry. test entry.0)
 
-every-with_entry : (test : List ℕ → Bool) (es : List ℕ) (c : ℤ) (p : Polynomial) → test es ≡ true → every test p ≡ true → every test (with_entry es c p) ≡ true
+pub every-with_entry : (test : List ℕ → Bool) (es : List ℕ) (c : ℤ) (p : Polynomial) → test es ≡ true → every test p ≡ true → every test (with_entry es c p) ≡ true
 every-with_entry test es (pos zero) p a h = h
 every-with_entry test es (pos (suc k)) p a h = both_true a h
 every-with_entry test es (negsuc k) p a h = both_true a h
@@ -74,10 +74,10 @@ every-last test (x ∷ p) t h =
     (both_true (first_so (test x.exps) (every test (polynomial_of (p ++ t ∷ []))) h) k.0, k.1)
 
 -- Degrees.
-le-more : (a d e : ℕ) → d ≤ e → nat_le a d ≡ true → nat_le a e ≡ true
+pub le-more : (a d e : ℕ) → d ≤ e → nat_le a d ≡ true → nat_le a e ≡ true
 le-more a d e le h = grind (arith, nat_tests)
 
-le-sum : (a b d e : ℕ) → nat_le a d ≡ true → nat_le b e ≡ true → nat_le (a + b) (d + e) ≡ true
+pub le-sum : (a b d e : ℕ) → nat_le a d ≡ true → nat_le b e ≡ true → nat_le (a + b) (d + e) ≡ true
 le-sum a b d e h k = grind (arith, nat_tests)
 
 pub are_at_most-more : (d e : ℕ) (xs : List ℕ) → d ≤ e → are_at_most d xs ≡ true → are_at_most e xs ≡ true

@@ -10,6 +10,8 @@ pub mod Texts
 pub mod Proves
 pub mod Over
 pub mod Lengths
+pub mod Table
+pub mod Degrees
 pub mod Stated
 pub mod Effects
 pub mod OtherWords

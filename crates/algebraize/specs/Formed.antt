@@ -11,6 +11,7 @@ use Rattle.algebraize.specs.Curves.{Curves, no_line, no_circle}
 use Rattle.algebraize.specs.Equations.{Equations, polynomials}
 use Rattle.algebraize.specs.Figure as figure
 use Rattle.algebraize.specs.Shape.{line_of}
+use Rattle.algebraize.specs.Small.{is_of_degree}
 
 -- The lines and circles of a figure.
 abbrev pub curves_of : Figure → Curves Polynomial
@@ -43,3 +44,7 @@ equations p = record { variables = p.vars; hypotheses = p.hyps; conclusions = p.
 -- Only the problem's variables occur in its polynomials.
 abbrev pub is_own : Problem → Bool
 is_own p = list_all (is_over (length p.vars)) p.hyps && list_all (is_over (length p.vars)) p.cons
+
+-- Its polynomials are of degree at most 2.
+abbrev pub is_quadratic : Problem → Bool
+is_quadratic p = list_all (is_of_degree 2) p.hyps && list_all (is_of_degree 2) p.cons

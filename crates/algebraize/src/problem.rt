@@ -7,7 +7,7 @@ ghost use Rattle.poly_model.specs.Content.{primitive_part};
 ghost use Rattle.proof_steps.specs.Stated.{IsStated, IsWithinLimits};
 ghost use Rattle.algebraize.specs.Equations.{polynomials};
 ghost use Rattle.algebraize.specs.Figure.{conditions_from};
-ghost use Rattle.algebraize.specs.Formed.{HasDefaults, curves_of, equations, is_own};
+ghost use Rattle.algebraize.specs.Formed.{HasDefaults, curves_of, equations, is_own, is_quadratic};
 ghost use Rattle.algebraize.specs.Problem.{MeanProve, acts_before, is_prove, problem_at, problem_of, problems_of};
 
 use crate::figure::Figure;
@@ -107,6 +107,7 @@ pub fn system_of<D: Domain>(
         (equations problem)) }
     ensures own { IfOk result (λ problem. IsTrue (is_own problem)) }
     ensures stated { IfOk result (λ problem. IsStated problem) }
+    ensures quadratic { IfOk result (λ problem. IsTrue (is_quadratic problem)) }
 {
     let acts = program.acts.as_slice();
     let place = acts_before(acts, prove);
@@ -130,6 +131,7 @@ pub fn problems(alloc: Global, program: &Program) -> Result<Vec<Problem>, GclFau
         (problems_of program.now.acts) }
     ensures own { IfOk result (λ problems. IsTrue (list_all is_own problems.items)) }
     ensures stated { IfOk result (λ problems. All IsStated problems.items) }
+    ensures quadratic { IfOk result (λ problems. IsTrue (list_all is_quadratic problems.items)) }
 {
     let mut problems = Vec::new(alloc);
     let mut prove = 0;

@@ -167,7 +167,9 @@ fn grow<P>(
     ensures waiting_kept { vec_capacity waiting.old ≤ vec_capacity waiting.new }
     ensures held_kept { vec_capacity held.old ≤ vec_capacity held.new }
     ensures history_kept { vec_capacity history.old ≤ vec_capacity history.new }
-    ensures room { OnOk result (RoomForTwo (vec_len waiting.new) (vec_capacity waiting.new) (vec_len held.new) (vec_capacity held.new) (vec_len history.new) (vec_capacity history.new)) }
+    ensures room { OnOk result (RoomForTwo (vec_len waiting.new) (vec_capacity waiting.new)
+        (vec_len held.new) (vec_capacity held.new)
+        (vec_len history.new) (vec_capacity history.new)) }
 {
     waiting.reserve(held.len() + 2)?;
     held.reserve(waiting.len() + 2)?;

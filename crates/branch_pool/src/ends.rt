@@ -1,5 +1,5 @@
 ghost use Rattle.std.specs.Prelude.{◌≡◌, IfOk, OnErr, OnOk, IfErr, MatchOption};
-ghost use Rattle.branch_pool.specs.Deques.{new_end, gave_at, took_at, nothing};
+ghost use Rattle.branch_pool.specs.Deques.{new_end, gave_at, took_at};
 
 use crate::rule::{Fair, Hand, Pushed, Taken};
 use crossbeam_deque::{Pass, Steal, Stealer, Worker};

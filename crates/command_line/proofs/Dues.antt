@@ -68,26 +68,38 @@ within most bytes Next a true e fits next = absurd (fits (grind arith))
 within most bytes Next a false e fits next =
     subst (λ b. elim b as (λ _. Type 0) [ true ↦ a ≡ too_large | false ↦ Next bytes a ]) (sym e) next
 
+-- the file is told, and what comes next sees its bytes
+pub of_told : (held : Option Files) (files : Files) (name : List ℕ) (most : ℕ) (Next : List ℕ → Answer → Type 0) (a : Answer) → held ≡ Some files → (Lacks held name → ⊥)
+    → ((file : List ℕ) → Holds held name file → (most < length file → ⊥) × Next file a) → OfFile most (file_of files name) Next a
+of_told held files name most Next a e there next = by (file_of files name) refl where
+  by : (o : Option (List ℕ)) → file_of files name ≡ o → OfFile most (file_of files name) Next a
+  by None f = absurd (there (some_held held files name None e f))
+  by (Some file) f =
+      let told = next file (some_held held files name (Some file) e f) in
+      subst (λ o. OfFile most o Next a) (sym f) (within most file Next a (nat_lt most (length file)) refl told.0 told.1)
+
 -- the file was read, and has no more bytes than it may
 pub of_read : (held : Option Files) (files : Files) (name : List ℕ) (most : ℕ) (bytes : List ℕ) (Next : List ℕ → Answer → Type 0) (a : Answer)
     → held ≡ Some files → ((file : List ℕ) → Holds held name file → bytes ≡ file) → (Lacks held name → ⊥) → (most < length bytes → ⊥) → Next bytes a
     → OfFile most (file_of files name) Next a
-of_read held files name most bytes Next a e whole there fits next = by (file_of files name) refl where
-  by : (o : Option (List ℕ)) → file_of files name ≡ o → OfFile most (file_of files name) Next a
-  by None f = absurd (there (some_held held files name None e f))
-  by (Some file) f =
-      subst (λ o. OfFile most o Next a) (sym f)
-      (subst (λ b. OfFile most (Some b) Next a) (whole file (some_held held files name (Some file) e f)) (within most bytes Next a (nat_lt most (length bytes)) refl fits next))
+of_read held files name most bytes Next a e whole there fits next =
+    of_told held files name most Next a e there
+    (λ file h. (subst (λ b. most < length b → ⊥) (whole file h) fits, subst (λ b. Next b a) (whole file h) next))
 
-alone_by : (bytes : List ℕ) (Next : List ℕ → Answer → Type 0) (a : Answer) (t : Bool) → elim t as (λ _. Type 0) [ true ↦ a ≡ too_large | false ↦ ⊥ ]
-    → elim t as (λ _. Type 0) [ true ↦ a ≡ too_large | false ↦ Next bytes a ]
-alone_by bytes Next a true e = e
-alone_by bytes Next a false e = absurd e
+widened_by : (bytes : List ℕ) (Next Next' : List ℕ → Answer → Type 0) (a : Answer) (t : Bool) → (Next bytes a → Next' bytes a)
+    → elim t as (λ _. Type 0) [ true ↦ a ≡ too_large | false ↦ Next bytes a ] → elim t as (λ _. Type 0) [ true ↦ a ≡ too_large | false ↦ Next' bytes a ]
+widened_by bytes Next Next' a true over e = e
+widened_by bytes Next Next' a false over e = over e
+
+-- what comes next says less
+pub widened : (most : ℕ) (o : Option (List ℕ)) (Next Next' : List ℕ → Answer → Type 0) (a : Answer) → ((bytes : List ℕ) → Next bytes a → Next' bytes a)
+    → OfFile most o Next a → OfFile most o Next' a
+widened most None Next Next' a over e = e
+widened most (Some bytes) Next Next' a over e = widened_by bytes Next Next' a (nat_lt most (length bytes)) (over bytes) e
 
 -- where the file alone decides, nothing comes next
 pub alone : (most : ℕ) (o : Option (List ℕ)) (Next : List ℕ → Answer → Type 0) (a : Answer) → OfFileAlone most o a → OfFile most o Next a
-alone most None Next a e = e
-alone most (Some bytes) Next a e = alone_by bytes Next a (nat_lt most (length bytes)) e
+alone most o Next a e = widened most o (λ bytes b. ⊥) Next a (λ bytes never. absurd never) e
 
 passed : (held : Option Files) (rose rose' : Type 0) (Of Of' : Files → Answer → Type 0) (answer : Answer) (files : Files) → (rose → rose')
     → (Of files answer → Of' files answer) → Of files answer ⊎ (rose × (answer ≡ read_fault)) → Of' files answer ⊎ (rose' × (answer ≡ read_fault))

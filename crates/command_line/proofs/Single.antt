@@ -1,13 +1,37 @@
 -- No form has two answers over the same files.
-use Rattle.std.proofs.Common.{◌≡◌, ℕ, List, [], ◌∷◌, length, Option, None, Some, Bool, true, false, nat_lt, sym, ◌∙◌}
+use Rattle.std.proofs.Common.{◌≡◌, ◌⊎◌, ℕ, List, [], ◌∷◌, length, get_or, Option, None, Some, Result, Ok, Err, Bool, true, false, nat_lt, inl, inr, sym, ◌∙◌, ap, subst}
+use Rattle.gcl_reader.specs.declared.refusal.Refusal.{Refusal}
+use Rattle.algebraize.specs.Equations.{Equations}
+use Rattle.log_checker.specs.Answers.{Finding}
+use Rattle.log_checker.proofs.Exact.{one_finding}
 use Rattle.desk_io.specs.Files.{Files, file_of}
 use Rattle.command_line.specs.Answer.{Answer, too_large}
-use Rattle.command_line.specs.Table.{Form, TextOf, ProveOf, Source, OfFile, OfSources, IsAnswerOver, IsAnswer, sources_of}
+use Rattle.command_line.specs.Checking.{answer_to, IsChecked, HasProblems, IsAnswerAgainst, IsCompared, IsComparedWith, stated_in}
+use Rattle.command_line.specs.Table.{Form, TextOf, ProveOf, CheckOf, Source, OfFile, OfSources, IsAnswerOver, IsAnswer, sources_of}
 
 -- There is at most one answer.
 abbrev AtMostOne : (Answer → Type 0) → Type 0
 AtMostOne Is = (a b : Answer) → Is a → Is b → a ≡ b
 
+-- ---- checked logs
+checked_one : (log : List ℕ) → AtMostOne (IsChecked log)
+checked_one log a b p q = p.answer ∙ ap answer_to (one_finding log p.finding q.finding p.found q.found) ∙ sym q.answer
+
+against_one : (stated : List Equations) (finding : Finding) → AtMostOne (IsAnswerAgainst stated finding)
+against_one stated finding a b (inl p) (inl q) = p.1 ∙ sym q.1
+against_one stated finding a b (inl p) (inr q) = absurd (q.0 p.0)
+against_one stated finding a b (inr p) (inl q) = absurd (p.0 q.0)
+against_one stated finding a b (inr p) (inr q) = p.1 ∙ sym q.1
+
+compared_one : (stated : List Equations) (log : List ℕ) → AtMostOne (IsCompared stated log)
+compared_one stated log a b p q =
+    against_one stated q.finding a b (subst (λ f. IsAnswerAgainst stated f a) (one_finding log p.finding q.finding p.found q.found) p.answer) q.answer
+
+compared_with_one : (read : Result (List Equations) Refusal) (log file : List ℕ) → AtMostOne (IsComparedWith read log file)
+compared_with_one (Ok stated) log file a b p q = compared_one stated log a b p q
+compared_with_one (Err refusal) log file a b p q = p ∙ sym q
+
+-- ---- forms
 by_size : (bytes : List ℕ) (Next : List ℕ → Answer → Type 0) → AtMostOne (Next bytes) → (t : Bool)
     → AtMostOne (λ a. elim t [ true ↦ a ≡ too_large | false ↦ Next bytes a ])
 by_size bytes Next one true a b p q = p ∙ sym q
@@ -27,6 +51,8 @@ over_sources (s ∷ sources) Over one files a b p q =
 over_form : (form : Form) (files : List (List ℕ)) → AtMostOne (IsAnswerOver form files)
 over_form (TextOf command file) files a b p q = p ∙ sym q
 over_form (ProveOf file) files a b p q = p ∙ sym q
+over_form (CheckOf log None) files a b p q = checked_one (get_or files 0 []) a b p q
+over_form (CheckOf log (Some file)) files a b p q = compared_with_one (stated_in (get_or files 1 [])) (get_or files 0 []) (get_or files 1 []) a b p q
 
 pub one_answer : (form : Option Form) (files : Files) (a b : Answer) → IsAnswer form files a → IsAnswer form files b → a ≡ b
 one_answer None files a b p q = p ∙ sym q

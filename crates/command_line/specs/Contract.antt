@@ -7,7 +7,7 @@ use Rattle.command_line.specs.Answer.{Answer, read_fault}
 use Rattle.command_line.specs.Table.{Form, IsAnswer, names_of}
 use Rattle.command_line.specs.Run.{Answers, Whole, CutOff, Nothing}
 use Rattle.command_line.specs.declared.status.Status.{Status}
-use Rattle.command_line.specs.declared.status.Status.TheVariants.{Done, Unproved, Rejected, Usage, ReadFault, WriteFault, OutOfMemory}
+use Rattle.command_line.specs.declared.status.Status.TheVariants.{Done, Unproved, Rejected, Usage, Refused, ReadFault, WriteFault, OutOfMemory}
 
 -- The desk and the sinks of a call, at one moment.
 pub record Lent (K S N : Type 0) : Type 0 where
@@ -104,3 +104,7 @@ pub record IsTextRun {K S N : Type 0} (old new : Lent K S N) (status : Status) :
 -- What a call promises besides that proves the statements of a file.
 abbrev pub IsProofRun : Status → Type 0
 IsProofRun status = (status ≡ Usage → ⊥) × (status ≡ Rejected → ⊥)
+
+-- What a call promises besides that checks a log: it proves nothing, and refuses no file where none is named.
+abbrev pub IsCheckRun : (file : Option (List ℕ)) → Status → Type 0
+IsCheckRun file status = (status ≡ Usage → ⊥) × (status ≡ Unproved → ⊥) × (file ≡ None → status ≡ Refused → ⊥)

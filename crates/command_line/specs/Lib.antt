@@ -2,6 +2,8 @@ pub mod Note
 pub mod Answer
 pub mod VerdictLines
 pub mod Proving
+pub mod Checking
+pub mod Found
 pub mod Table
 pub mod Command
 pub mod Pipeline

@@ -57,3 +57,9 @@ abbrev pub Answers : Option Files → Type 0 → (Files → Answer → Type 0)
     → (out_old out_new notes_old notes_new : Option (List ℕ)) → Status → Type 0
 Answers held rose Of out_old out_new notes_old notes_new status =
     Given held rose Of out_old out_new notes_old notes_new status ⊎ Nothing out_old out_new notes_old notes_new status
+
+-- One of these answers, and what is left of it; or nothing, where memory ran out.
+abbrev pub GivesOne : (Answer → Type 0) → (out_old out_new notes_old notes_new : Option (List ℕ)) → Status → Type 0
+GivesOne Is out_old out_new notes_old notes_new status =
+    ((a : Answer) × Is a × (Whole a out_old out_new notes_old notes_new status ⊎ CutOff a out_old out_new notes_old notes_new status))
+    ⊎ Nothing out_old out_new notes_old notes_new status

@@ -1,18 +1,21 @@
 -- The table of forms: what the words of a command line ask for, and what the program answers over the files that they name.
-use Rattle.std.specs.Prelude.{◌≡◌, ℕ, List, [], ◌∷◌, length, get_or, map, Option, Some, None, true, false, cond, nat_lt, codes}
+use Rattle.std.specs.Prelude.{◌≡◌, ℕ, ◌+◌, List, [], ◌∷◌, length, get_or, map, Option, Some, None, true, false, cond, nat_lt, codes}
 use Rattle.std.specs.Str.{bytes_eq}
 use Rattle.desk_io.specs.Files.{Files, file_of}
 use Rattle.gcl_reader.specs.declared.limits.TheConstants.{MOST_BYTES}
+use Rattle.poly_model.specs.declared.limits.TheConstants.{MOST_LOG_BYTES}
 use Rattle.command_line.specs.Answer.{Answer, usage, read_fault, too_large, text_answer, answer_from}
 use Rattle.command_line.specs.Command.{Command}
 use Rattle.command_line.specs.Pipeline.{svg_of, latex_of, system_of, show_of}
 use Rattle.command_line.specs.Proving.{proofs_of, proved}
+use Rattle.command_line.specs.Checking.{IsChecked, IsCheckedAgainst}
 
 -- ---- forms
 -- A form of the command line, with its words behind the first.
 pub data Form : Type 0 where
   TextOf : Command → (file : List ℕ) → Form  -- a text that a command makes of a file
   ProveOf : (file : List ℕ) → Form  -- the log of a file's proofs
+  CheckOf : (log : List ℕ) → (file : Option (List ℕ)) → Form  -- whether a log is accepted, and has a file's problems
 
 -- A file that a form names, and the most bytes that it may have.
 pub record Source : Type 0 where
@@ -26,12 +29,16 @@ source name most = record { name = name; most = most }
 abbrev pub sources_of : Form → List Source
 sources_of (TextOf command file) = source file MOST_BYTES ∷ []
 sources_of (ProveOf file) = source file MOST_BYTES ∷ []
+sources_of (CheckOf log None) = source log MOST_LOG_BYTES ∷ []
+sources_of (CheckOf log (Some file)) = source log MOST_LOG_BYTES ∷ source file MOST_BYTES ∷ []
 
 -- ---- answers over the bytes of the files
 -- The answer of a form over the bytes of its files.
 abbrev pub IsAnswerOver : Form → List (List ℕ) → Answer → Type 0
 IsAnswerOver (TextOf command file) files a = a ≡ answer_from text_answer (get_or files 0 []) (command (get_or files 0 []))
 IsAnswerOver (ProveOf file) files a = a ≡ answer_from proved (get_or files 0 []) (proofs_of (get_or files 0 []))
+IsAnswerOver (CheckOf log None) files a = IsChecked (get_or files 0 []) a
+IsAnswerOver (CheckOf log (Some file)) files a = IsCheckedAgainst (get_or files 0 []) (get_or files 1 []) a
 
 -- The answer over a file of at most so many bytes: what comes next sees the bytes.
 abbrev pub OfFile : ℕ → Option (List ℕ) → (List ℕ → Answer → Type 0) → Answer → Type 0
@@ -61,6 +68,41 @@ one_file form [] = None
 one_file form (name ∷ []) = Some (form name)
 one_file form (name ∷ other ∷ words) = None
 
+-- The numbers of workers: decimal, from 1 to 16.
+abbrev pub worker_counts : List (List ℕ)
+worker_counts =
+    codes "1" ∷ codes "2" ∷ codes "3" ∷ codes "4" ∷ codes "5" ∷ codes "6" ∷ codes "7" ∷ codes "8"
+    ∷ codes "9" ∷ codes "10" ∷ codes "11" ∷ codes "12" ∷ codes "13" ∷ codes "14" ∷ codes "15" ∷ codes "16" ∷ []
+
+-- The number of the word among these, which are numbered from k on.
+abbrev pub number_in : List (List ℕ) → ℕ → List ℕ → Option ℕ
+number_in [] k word = None
+number_in (w ∷ words) k word = cond (bytes_eq word w) (Some k) (number_in words (k + 1) word)
+
+-- The number of workers that a word tells.
+abbrev pub worker_count : List ℕ → Option ℕ
+worker_count word = number_in worker_counts 1 word
+
+-- A file's log does not depend on the number of its workers.
+abbrev pub proved_by : List ℕ → Option ℕ → Option Form
+proved_by file None = None
+proved_by file (Some count) = Some (ProveOf file)
+
+-- The words behind `prove`: the name of a file, and how many workers there are, if that is told.
+abbrev pub prove_words : List (List ℕ) → Option Form
+prove_words [] = None
+prove_words (file ∷ []) = Some (ProveOf file)
+prove_words (file ∷ option ∷ []) = None
+prove_words (file ∷ option ∷ count ∷ []) = cond (bytes_eq option (codes "--workers")) (proved_by file (worker_count count)) None
+prove_words (file ∷ option ∷ count ∷ other ∷ words) = None
+
+-- The words behind `check`: the name of a log, and that of a file, if there is one.
+abbrev pub log_and_file : List (List ℕ) → Option Form
+log_and_file [] = None
+log_and_file (log ∷ []) = Some (CheckOf log None)
+log_and_file (log ∷ file ∷ []) = Some (CheckOf log (Some file))
+log_and_file (log ∷ file ∷ other ∷ words) = None
+
 -- All forms.
 abbrev pub rows : List Row
 rows =
@@ -68,7 +110,8 @@ rows =
     ∷ record { word = codes "latex"; form = one_file (TextOf latex_of) }
     ∷ record { word = codes "system"; form = one_file (TextOf system_of) }
     ∷ record { word = codes "show"; form = one_file (TextOf show_of) }
-    ∷ record { word = codes "prove"; form = one_file ProveOf }
+    ∷ record { word = codes "prove"; form = prove_words }
+    ∷ record { word = codes "check"; form = log_and_file }
     ∷ []
 
 -- The form that a first word begins, by the first row that has it.

@@ -1,8 +1,10 @@
 // The words of the command line.
 ghost use Rattle.std.specs.Prelude.{◌≡◌, map};
 ghost use Rattle.std.specs.String.{string_bytes};
-ghost use Rattle.command_line.specs.Table.{TextOf, ProveOf, one_file, form_of};
+ghost use Rattle.command_line.specs.Table.{TextOf, one_file, log_and_file, form_of, prove_words, proved_by, worker_count};
 ghost use Rattle.command_line.specs.Forms.{command_of, form_seen};
+
+use crate::workers::{Workers, worker_count};
 
 /// The forms that make a text of one file.
 #[derive(Clone, Copy, Debug, PartialEq, Eq)]
@@ -22,6 +24,10 @@ pub enum Invocation<'a> {
     Text(TextForm, &'a str),
     /// The log of a file's proofs.
     Prove(&'a str),
+    /// The same, by workers who do each proof together.
+    ProveTogether(&'a str, Workers),
+    /// Whether a log is accepted, and whether it has the problems of a file, where one is named.
+    Check(&'a str, Option<&'a str>),
 }
 
 // A form that makes a text, with the words behind its first.
@@ -34,12 +40,36 @@ fn read_text(form: TextForm, names: &[String]) -> Invocation<'_>
     }
 }
 
+// `prove` of a file, by as many workers as a word tells.
+fn read_together<'a>(name: &'a str, count: &str) -> Invocation<'a>
+    ensures { form_seen result ≡ proved_by name.now (worker_count count.now) }
+{
+    match worker_count(count) {
+        Some(count) => Invocation::ProveTogether(name, Workers { count }),
+        None => Invocation::Wrong,
+    }
+}
+
 // `prove`, with the words behind it.
-fn read_prove(names: &[String]) -> Invocation<'_>
-    ensures { form_seen result ≡ one_file ProveOf (map string_bytes names.now) }
+fn read_prove(words: &[String]) -> Invocation<'_>
+    ensures { form_seen result ≡ prove_words (map string_bytes words.now) }
+{
+    match words {
+        [name] => Invocation::Prove(name.as_str()),
+        [name, option, count] if option.as_str() == "--workers" => {
+            read_together(name.as_str(), count.as_str())
+        }
+        _ => Invocation::Wrong,
+    }
+}
+
+// `check`, with the words behind it.
+fn read_check(names: &[String]) -> Invocation<'_>
+    ensures { form_seen result ≡ log_and_file (map string_bytes names.now) }
 {
     match names {
-        [name] => Invocation::Prove(name.as_str()),
+        [log] => Invocation::Check(log.as_str(), None),
+        [log, file] => Invocation::Check(log.as_str(), Some(file.as_str())),
         _ => Invocation::Wrong,
     }
 }
@@ -57,6 +87,7 @@ pub fn read_command(words: &[String]) -> Invocation<'_>
         "system" => read_text(TextForm::System, names),
         "show" => read_text(TextForm::Show, names),
         "prove" => read_prove(names),
+        "check" => read_check(names),
         _ => Invocation::Wrong,
     }
 }

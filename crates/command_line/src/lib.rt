@@ -2,18 +2,24 @@
 #![tactic(auto)]
 
 mod asked;
+mod check;
+mod checking;
+mod comparing;
 mod draft;
 mod drawn;
 mod invocation;
 mod laws;
 mod note;
 mod pipeline;
+mod prover;
 mod proving;
 mod run;
 mod stage;
 mod status;
 mod verdict_lines;
+mod workers;
 
+pub use check::check_run;
 pub use laws::answers_are_unique;
 pub use run::{gclc_run, latex_run, prove_one_run, show_run, svg_run, system_run};
 pub use status::{Status, exit_code};

@@ -1,5 +1,6 @@
-// The line on notes that refuses a file.
+// The line on notes that refuses a file or rejects a log.
 ghost use Rattle.std.specs.Prelude.{◌≡◌, ◌++◌, take, drop, IfOk, OnOk};
+ghost use Rattle.command_line.specs.Checking.{rejected_line};
 ghost use Rattle.command_line.specs.Note.{kind_text, token_text, refusal_line};
 
 use gcl_reader::{Kind, Refusal};
@@ -69,4 +70,17 @@ pub fn note_of(alloc: Global, bytes: &[u8], refusal: Refusal) -> Result<Vec<u8>,
     push_token(&mut line, bytes, refusal)?;
     line.push(b'\n')?;
     Ok(line)
+}
+
+/// The line that says at which line a log is at fault: `rejected: line L: WORD`.
+pub fn rejection_of(alloc: Global, line: u32, word: &[u8]) -> Result<Vec<u8>, AllocError>
+    ensures { IfOk result (λ note. note.items ≡ rejected_line line word.now) }
+{
+    let mut number = Buffer::new();
+    let mut note = Vec::from_slice(alloc, b"rejected: line ")?;
+    note.extend_from_slice(number.format(line).as_bytes())?;
+    note.extend_from_slice(b": ")?;
+    note.extend_from_slice(word)?;
+    note.push(b'\n')?;
+    Ok(note)
 }

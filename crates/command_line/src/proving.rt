@@ -12,6 +12,7 @@ ghost use Rattle.command_line.specs.Proving.{proofs_of, proved, proves, status_o
 ghost use Rattle.command_line.specs.Run.{Ends};
 ghost use Rattle.command_line.specs.Statuses.{IsProvingStatus};
 
+use crate::prover::Prover;
 use crate::stage::{refuse, say_each};
 use crate::status::Status;
 use crate::verdict_lines::all_verdict_lines;
@@ -19,20 +20,20 @@ use desk_io::{Failed, Pen, Sink};
 use gcl_names::resolve;
 use gcl_reader::{GclFault, MOST_BYTES, read};
 use proof_log::{Log, Proof, write_log};
-use prove_run::prove_one;
 use std::alloc::Global;
 use verdicts::Verdict;
 
 // The log of a file.
 #[tactic(auto, unfolding(crate::specs::Proving::proofs_of))]
-fn prove_file(alloc: Global, bytes: &[u8]) -> Result<Log, GclFault>
-    requires { length bytes.now ≤ MOST_BYTES }
+fn prove_file<P: Prover>(prover: &P, alloc: Global, bytes: &[u8]) -> Result<Log, GclFault>
+    requires ready { P.ready }
+    requires fits { length bytes.now ≤ MOST_BYTES }
     ensures value { Gives (λ log. log.proofs) result (proofs_of bytes.now) }
     ensures whole { IfOk result (λ log. IsWhole VERSION log.proofs) }
 {
     let file = read(alloc, bytes)?;
     let program = resolve(alloc, &file)?;
-    prove_one(alloc, &program)
+    prover.prove(alloc, &program)
 }
 
 // Whether the verdict proves its statement.
@@ -98,13 +99,15 @@ fn put_proofs<S: Sink, N: Sink>(alloc: Global, log: &Log, out: &mut S, notes: &m
 }
 
 /// Proves the statements of a file.
-pub fn put_file_proofs<S: Sink, N: Sink>(
+pub fn put_file_proofs<P: Prover, S: Sink, N: Sink>(
+    prover: &P,
     alloc: Global,
     bytes: &[u8],
     out: &mut S,
     notes: &mut N,
 ) -> Status
-    requires { length bytes.now ≤ MOST_BYTES }
+    requires ready { P.ready }
+    requires fits { length bytes.now ≤ MOST_BYTES }
     ensures ends { Ends (answer_from proved bytes.now (proofs_of bytes.now))
         (S.written out.old) (S.written out.new) (N.written notes.old) (N.written notes.new) result }
     ensures write_fault { result ≡ Status.WriteFault
@@ -114,7 +117,7 @@ pub fn put_file_proofs<S: Sink, N: Sink>(
     ensures unsaid { result ≡ Status.OutOfMemory → notes.new ≡ notes.old }
     ensures later { (S.faults out.old ≤ S.faults out.new) × (N.faults notes.old ≤ N.faults notes.new) }
 {
-    match prove_file(alloc, bytes) {
+    match prove_file(prover, alloc, bytes) {
         Ok(log) => put_proofs::<S, N>(alloc, &log, out, notes),
         Err(GclFault::Refused(refusal)) => refuse(alloc, bytes, refusal, notes),
         Err(GclFault::OutOfMemory) => Status::OutOfMemory,

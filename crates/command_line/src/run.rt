@@ -1,22 +1,27 @@
 // The top call, and the call of each form.
-ghost use Rattle.std.specs.Prelude.{◌≡◌, ◌≤◌, ◌⊎◌, List, ℕ, [], ◌∷◌, None, Some, map};
+ghost use Rattle.std.specs.Prelude.{◌≡◌, ◌≤◌, ◌⊎◌, List, ℕ, [], ◌∷◌, Option, None, Some, map};
 ghost use Rattle.std.specs.String.{string_bytes};
 ghost use Rattle.desk_io.specs.Causes.{Rose};
 ghost use Rattle.desk_io.specs.Files.{Lacks};
-ghost use Rattle.command_line.specs.Table.{IsAnswer, TextOf, ProveOf, form_of};
+ghost use Rattle.command_line.specs.Table.{IsAnswer, TextOf, ProveOf, CheckOf, form_of};
 ghost use Rattle.command_line.specs.Command.{Command};
-ghost use Rattle.command_line.specs.Contract.{IsRun, IsTextRun, IsProofRun, IsQuiet, lent, views};
+ghost use Rattle.command_line.specs.Contract.{IsRun, IsTextRun, IsProofRun, IsCheckRun, IsQuiet, lent, views};
 ghost use Rattle.command_line.specs.Pipeline.{svg_of, latex_of, system_of, show_of};
 ghost use Rattle.command_line.specs.Run.{Answers};
 
+use crate::check::check_run;
 use crate::invocation::{Invocation, TextForm, read_command};
 use crate::pipeline::{LatexCommand, ShowCommand, SvgCommand, SystemCommand};
+use crate::prover::{Alone, Prover, Together};
 use crate::proving::put_file_proofs;
 use crate::stage::{TextCommand, fetch, put_file, say};
 use crate::status::Status;
 use desk_io::{Desk, Sink};
 use gcl_reader::MOST_BYTES;
+use poly_model::Domain;
 use std::alloc::Global;
+use std::sync::Wait;
+use std::thread::Threads;
 
 const USAGE: &[u8] =
     b"usage: gclc svg FILE, latex FILE, system FILE, show FILE, prove FILE [--workers N], check LOG [FILE]\n";
@@ -130,13 +135,15 @@ pub fn show_run<K: Desk, S: Sink, N: Sink>(
 }
 
 // Reads the file and proves its statements. The call below says what follows.
-fn proofs_answered<K: Desk, S: Sink, N: Sink>(
+fn proofs_answered<P: Prover, K: Desk, S: Sink, N: Sink>(
+    prover: &P,
     alloc: Global,
     name: &str,
     desk: &mut K,
     out: &mut S,
     notes: &mut N,
 ) -> Status
+    requires { P.ready }
     ensures answered { Answers (K.held desk.old) (Rose (K.faults desk.old) (K.faults desk.new))
         (IsAnswer (Some (ProveOf name.now)))
         (S.written out.old) (S.written out.new) (N.written notes.old) (N.written notes.new) result }
@@ -152,9 +159,27 @@ fn proofs_answered<K: Desk, S: Sink, N: Sink>(
     ensures proofs { IsProofRun result }
 {
     match fetch(alloc, name, MOST_BYTES, desk, notes) {
-        Ok(bytes) => put_file_proofs::<S, N>(alloc, &bytes, out, notes),
+        Ok(bytes) => put_file_proofs::<P, S, N>(prover, alloc, &bytes, out, notes),
         Err(status) => status,
     }
+}
+
+// Writes the log of the file's proofs, which a prover gives, and says each verdict on notes.
+fn proofs_run<P: Prover, K: Desk, S: Sink, N: Sink>(
+    prover: &P,
+    alloc: Global,
+    name: &str,
+    desk: &mut K,
+    out: &mut S,
+    notes: &mut N,
+) -> Status
+    requires { P.ready }
+    ensures run { IsRun (views K.held K.faults S.written S.faults N.written N.faults)
+        (lent desk.old out.old notes.old) (lent desk.new out.new notes.new)
+        (Some (ProveOf name.now)) result }
+    ensures proofs { IsProofRun result }
+{
+    proofs_answered::<P, K, S, N>(prover, alloc, name, desk, out, notes)
 }
 
 /// `prove FILE`: writes the log of the file's proofs, by one worker, and says each verdict on notes.
@@ -170,12 +195,16 @@ pub fn prove_one_run<K: Desk, S: Sink, N: Sink>(
         (Some (ProveOf name.now)) result }
     ensures proofs { IsProofRun result }
 {
-    proofs_answered::<K, S, N>(alloc, name, desk, out, notes)
+    proofs_run::<Alone, K, S, N>(&Alone, alloc, name, desk, out, notes)
 }
 
-/// What the program does with the words after its name.
-pub fn gclc_run<K: Desk, S: Sink, N: Sink>(
+/// What the program does with the words after its name. What a check of a log has shown is told in the domain.
+///
+/// `prove FILE --workers N` has workers do each proof together, also where N is 1; no other form starts a thread.
+pub fn gclc_run<R: Threads + Wait + Sync, D: Domain, K: Desk, S: Sink, N: Sink>(
+    rt: &R,
     alloc: Global,
+    domain: &D,
     words: &[String],
     desk: &mut K,
     out: &mut S,
@@ -189,6 +218,8 @@ pub fn gclc_run<K: Desk, S: Sink, N: Sink>(
         → IsTextRun (lent desk.old out.old notes.old) (lent desk.new out.new notes.new) result }
     ensures proofs { (name : List ℕ) → form_of (map string_bytes words.now) ≡ Some (ProveOf name)
         → IsProofRun result }
+    ensures checked { (log : List ℕ) (file : Option (List ℕ))
+        → form_of (map string_bytes words.now) ≡ Some (CheckOf log file) → IsCheckRun file result }
 {
     match read_command(words) {
         Invocation::Text(TextForm::Svg, name) => svg_run(alloc, name, desk, out, notes),
@@ -196,6 +227,10 @@ pub fn gclc_run<K: Desk, S: Sink, N: Sink>(
         Invocation::Text(TextForm::System, name) => system_run(alloc, name, desk, out, notes),
         Invocation::Text(TextForm::Show, name) => show_run(alloc, name, desk, out, notes),
         Invocation::Prove(name) => prove_one_run(alloc, name, desk, out, notes),
+        Invocation::ProveTogether(name, workers) => {
+            proofs_run(&Together { rt, workers }, alloc, name, desk, out, notes)
+        }
+        Invocation::Check(log, file) => check_run(alloc, domain, log, file, desk, out, notes),
         Invocation::Wrong => say(USAGE, Status::Usage, notes),
     }
 }

@@ -3,6 +3,7 @@
 
 use command_line::{Status, exit_code, gclc_run};
 use desk_io::{RealDesk, RealSink};
+use poly_model::Gaussian;
 use std::process::ExitCode;
 use std::rt::Env;
 use std::{env, io};
@@ -25,6 +26,8 @@ fn main(rt: HostRuntime) -> ExitCode {
         // Words that are no text are no form of the command line, and neither are none.
         Err(_) => Vec::new(alloc),
     };
-    let mut desk = RealDesk::new(rt);
-    exit_code(gclc_run(alloc, &words, &mut desk, &mut out, &mut notes))
+    let mut desk = RealDesk::new(&rt);
+    exit_code(gclc_run(
+        &rt, alloc, &Gaussian, &words, &mut desk, &mut out, &mut notes,
+    ))
 }

@@ -28,12 +28,6 @@ all-told [] [] b h t w = record { eqs = refl; nes = refl }
 all-told [] (y ∷ ys) b h t w = absurd (let e : ◌≡◌ {A = Option Inside} None (Some (listed w)) = h (Some (listed w)) ∙ ap {B = Option Inside} (λ c. if c then Some (listed w) else None) t in cc)
 all-told (x ∷ xs) ys b h t w = absurd (let e : ◌≡◌ {A = Option Inside} None (Some (listed w)) = h (Some (listed w)) ∙ ap {B = Option Inside} (λ c. if c then Some (listed w) else None) t in cc)
 
-pub whole-in : (xs ys : List Polynomial) (b : Bool) (i : Option Inside) → ((i : Option Inside) → where_whole xs ys i ≡ (if b then i else None)) → b ≡ true → i ≡ where_whole xs ys i
-whole-in xs ys b i h t = sym (h i ∙ ap {B = Option Inside} (λ c. if c then i else None) t)
-
-pub none-in : (xs ys : List Polynomial) (b : Bool) (i : Option Inside) → ((i : Option Inside) → where_whole xs ys i ≡ (if b then i else None)) → b ≡ false → None ≡ where_whole xs ys i
-none-in xs ys b i h t = sym (h i ∙ ap {B = Option Inside} (λ c. if c then i else None) t)
-
 -- a line `step`
 pub no-step : (E : List Polynomial) (fuel : ℕ) (c : ChainStep) (d : chain.Due) → is_reduce d ≡ false → None ≡ chain_row E fuel c d
 no-step E fuel c chain.AllZero e = refl

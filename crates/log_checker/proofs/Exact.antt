@@ -58,7 +58,7 @@ stop_begins : (front : List LogLine) (bytes : List ℕ) (s : Stops front bytes) 
 stop_begins front bytes (inl r) = r.begins
 stop_begins front bytes (inr r) = r.begins
 
-all_lines : (names : List VarName) (a b : List LogLine) → AreLines names (a ++ b) → AreLines (names_behind names a) b
+pub all_lines : (names : List VarName) (a b : List LogLine) → AreLines names (a ++ b) → AreLines (names_behind names a) b
 unfolding AreLines names_behind
 all_lines names [] b h = h
 all_lines names (l ∷ a) b h = all_lines (names_after names l) a b h.1

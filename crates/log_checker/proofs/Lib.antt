@@ -14,3 +14,5 @@ pub mod Exact
 mod Listing
 mod Dues
 mod Chains
+mod Leaves
+mod Ends

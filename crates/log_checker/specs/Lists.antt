@@ -1,9 +1,9 @@
 -- Lists of polynomials that are told one by one.
-use Rattle.std.specs.Prelude.{ℕ, List, [], ◌∷◌, drop, Bool, true, false, Option, Some, None}
+use Rattle.std.specs.Prelude.{◌≡◌, ℕ, List, [], ◌∷◌, drop, Bool, true, false, Option, Some, None}
 use Rattle.poly_model.specs.Polynomial.{Polynomial}
 use Rattle.poly_model.specs.Reduction.{same}
-use Rattle.log_checker.specs.Fitting.{Inside, Work, where_fits}
-use Rattle.log_checker.specs.Views.{listing}
+use Rattle.log_checker.specs.Fitting.{Inside, Work, where_fits, where_whole}
+use Rattle.log_checker.specs.Views.{eqs_due, nes_due, listing}
 use Rattle.log_checker.specs.declared.piece.Lists.{Lists}
 
 -- None is left to be told.
@@ -24,3 +24,12 @@ left_of ps (Some k) = Some (drop k ps)
 abbrev pub lists_row : (ℕ → Lists) → Work → Option ℕ → Option Inside
 lists_row lists w None = None
 lists_row lists w (Some k) = Some (listing (lists k) w)
+
+-- Something is left to be told.
+abbrev pub HaveMore : Lists → Type 0
+HaveMore l = (i : Option Inside) → where_whole (eqs_due l) (nes_due l) i ≡ None
+
+-- Where a piece stands with the lists that a line leaves.
+abbrev pub lists_views : Work → Option Lists → Option Inside
+lists_views w None = None
+lists_views w (Some l) = Some (listing l w)

@@ -52,9 +52,10 @@ impl Progress {
         ensures problems { result.problems ≡ self.told.problems.items }
         ensures verdicts { result.verdicts ≡ self.told.verdicts.items }
     {
+        let told = self.told;
         Checked {
-            problems: Row::from_vec(self.told.problems),
-            verdicts: Row::from_vec(self.told.verdicts),
+            problems: Row::from_vec(told.problems),
+            verdicts: Row::from_vec(told.verdicts),
         }
     }
 }

@@ -5,6 +5,7 @@ ghost use Rattle.log_checker.specs.Fitting.{At, listed, where_fits, in_piece};
 ghost use Rattle.log_checker.specs.Views.{inside_view, inside_views};
 ghost use Rattle.log_checker.specs.declared.piece.Inside.TheVariants as inside;
 
+use crate::leaf::{at_stopped, at_system};
 use crate::open::open_row;
 use crate::piece::Inside;
 use crate::rows::{clash_row, close_row, drop_row, red_row, split_row, system_row, tail_row};
@@ -61,5 +62,25 @@ fn at_node<S: TermStore>(
         LogLine::Node(_) => Ok(None),
         LogLine::Verdict(_) => Ok(None),
         LogLine::End => Ok(None),
+    }
+}
+
+/// Where a piece stands behind a line, if it fits.
+pub fn line_within<S: TermStore>(
+    alloc: Global,
+    s: &mut S,
+    cons: &[OwnedPoly],
+    inside: Inside,
+    line: LogLine,
+) -> Result<Option<Inside>, AllocError>
+    ensures { IfOk result (λ o. (version : ℕ) → inside_views o
+        ≡ in_piece version cons.now (inside_view inside) line) }
+{
+    match inside {
+        Inside::At(node) => at_node(alloc, s, cons, node, line),
+        Inside::Solving(system) => at_system(alloc, s, system, line),
+        Inside::Stopped(lists, reason) => Ok(at_stopped(lists, reason, line)),
+        Inside::Parted { .. } => Ok(None),
+        Inside::Ended(_) => Ok(None),
     }
 }

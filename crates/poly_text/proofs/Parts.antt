@@ -2,6 +2,7 @@
 use Rattle.std.proofs.Common.{◌≡◌, ◌≢◌, ℕ, ◌+◌, ◌<◌, ◌≤◌, zero, suc, List, [], ◌∷◌, ◌++◌, length, drop, get_or, Bool, true, false, ◌==◌, cond, refl, sym, ◌∙◌, ap, arith, append_assoc}
 use Rattle.std.specs.Prelude.{codes, decimal}
 use Rattle.std.proofs.lemmas.Bool.Decides.{nat_tests}
+use Rattle.std.proofs.lemmas.Fmt.{decimal_digit}
 use Rattle.std.proofs.lemmas.List.{drop_all}
 use Rattle.std.proofs.Math.Seq.{drop-cons}
 use Rattle.poly_model.specs.Polynomial.{Polynomial}
@@ -9,7 +10,7 @@ use Rattle.poly_model.specs.Standard.{entry_of, polynomial_of}
 use Rattle.poly_model.specs.declared.term.Term.{Term}
 use Rattle.poly_model.specs.declared.vars.VarName.{VarName}
 use Rattle.poly_model.specs.Names.{number}
-use Rattle.poly_text.specs.Text.{letter, joint_text, exponent_text, factor_text, factors_text, is_left_out, term_text, entry_text, terms_text, poly_text}
+use Rattle.poly_text.specs.Text.{letter, variable_text, joint_text, exponent_text, factor_text, factors_text, is_left_out, term_text, entry_text, terms_text, poly_text}
 
 pub exponent_above : (e : ℕ) → e ≢ 1 → exponent_text e ≡ codes "^" ++ decimal e
 exponent_above e n = ap (λ t. cond t [] (codes "^" ++ decimal e)) (let q : (e == 1) ≡ false = grind (arith, nat_tests) in q)
@@ -20,6 +21,13 @@ factor_parts joined name e front digits p q =
     sym (append_assoc (joint_text joined) (letter name ∷ []) (decimal (number name) ++ exponent_text e))
     ∙ sym (append_assoc (joint_text joined ++ letter name ∷ []) (decimal (number name)) (exponent_text e))
     ∙ (λ i. sym p i ++ sym q i ++ exponent_text e)
+
+-- numbers of one digit
+pub short_variable : (name : VarName) (l n : ℕ) (rest : List ℕ) → l ≡ letter name → n ≡ number name → number name < 10 → l ∷ (48 + n) ∷ rest ≡ variable_text name ++ rest
+short_variable name l n rest p q short = (λ i. p i ∷ (48 + q i) ∷ rest) ∙ ap (λ digits. letter name ∷ digits ++ rest) (sym (decimal_digit (number name) short))
+
+pub short_exponent : (e : ℕ) → e < 10 → e ≢ 1 → 94 ∷ (48 + e) ∷ [] ≡ exponent_text e
+short_exponent e short above = ap (λ digits. codes "^" ++ digits) (sym (decimal_digit e short)) ∙ sym (exponent_above e above)
 
 -- the factors from place i on
 module _ (joined : Bool) (names : List VarName) (es : List ℕ) (i : ℕ) (name : VarName) where

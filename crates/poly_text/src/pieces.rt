@@ -57,7 +57,8 @@ pub fn read_number(most: u128, text: &[u8]) -> Option<(u128, &[u8])>
     Some((value, rest))
 }
 
-fn letter(name: VarName) -> u8
+/// The byte of a variable's kind.
+pub fn letter(name: VarName) -> u8
     ensures { result ≡ letter name }
 {
     match name {

@@ -1,11 +1,13 @@
-ghost use Rattle.std.specs.Prelude.{◌≡◌, ◌++◌, ◌∷◌, [], IsTrue, length, decimal, unsigned_abs};
+ghost use Rattle.std.specs.Prelude.{◌≡◌, ◌<◌, ◌++◌, ◌∷◌, [], IsTrue, length, decimal, unsigned_abs};
 ghost use Rattle.desk_io.specs.Causes.{HasCause};
 ghost use Rattle.desk_io.specs.Bytes.{Writes};
 ghost use Rattle.poly_model.specs.Content.{is_negative};
+ghost use Rattle.poly_model.specs.Names.{number};
 ghost use Rattle.poly_model.specs.Polynomial.{is_over};
 ghost use Rattle.poly_model.specs.Standard.{entry_of};
 ghost use Rattle.poly_text.specs.Text.{letter, variable_text, joint_text, exponent_text, factor_text, factors_text, term_text, sign_text, entry_text, poly_text};
 
+use crate::pieces::letter;
 use crate::terms::is_left_out;
 use desk_io::{Failed, Pen, Sink};
 use itoa::Buffer;
@@ -34,15 +36,6 @@ fn sign(first: bool, negative: bool) -> &'static [u8]
     }
 }
 
-fn letter(name: VarName) -> &'static [u8]
-    ensures { result.now ≡ letter name ∷ [] }
-{
-    match name {
-        VarName::U(_) => b"u",
-        VarName::X(_) => b"x",
-    }
-}
-
 fn joint(joined: bool) -> &'static [u8]
     ensures { result.now ≡ joint_text joined }
 {
@@ -56,7 +49,7 @@ pub fn write_variable<S: Sink>(name: VarName, pen: &mut Pen, sink: &mut S) -> Re
     ensures cause { HasCause (S.faults sink.old) (S.faults sink.new) result }
 {
     let mut buffer = Buffer::new();
-    pen.push(sink, letter(name))?;
+    pen.push(sink, &[letter(name)])?;
     pen.push(sink, buffer.format(name.number()).as_bytes())
 }
 
@@ -73,6 +66,21 @@ fn print_exponent<S: Sink>(e: u8, pen: &mut Pen, sink: &mut S) -> Result<(), Fai
     pen.push(sink, buffer.format(e).as_bytes())
 }
 
+/// The text of a factor whose numbers have one digit each, put into the room for it.
+fn short_factor<'a>(joined: bool, name: VarName, e: u8, room: &'a mut [u8; 5]) -> &'a [u8]
+    requires { (number name < 10) × (e < 10) }
+    ensures { result.now ≡ joint_text joined ++ factor_text name e }
+{
+    *room = [b'*', letter(name), b'0' + name.number(), b'^', b'0' + e];
+    match (joined, e == 1) {
+        (true, true) => &room[..3],
+        (true, false) => &room[..],
+        (false, true) => &room[1..3],
+        (false, false) => &room[1..],
+    }
+}
+
+/// Prints a factor behind its joint. Most have short numbers, and go to the pen at once.
 fn print_factor<S: Sink>(
     joined: bool,
     name: VarName,
@@ -84,6 +92,9 @@ fn print_factor<S: Sink>(
         (joint_text joined ++ factor_text name e) }
     ensures cause { HasCause (S.faults sink.old) (S.faults sink.new) result }
 {
+    if name.number() < 10 && e < 10 {
+        return pen.push(sink, short_factor(joined, name, e, &mut [0; 5]));
+    }
     pen.push(sink, joint(joined))?;
     write_variable(name, pen, sink)?;
     print_exponent(e, pen, sink)

@@ -4,7 +4,7 @@ use Rattle.std.specs.List.{flat_map}
 use Rattle.std.proofs.lemmas.List.{append-nil}
 use Rattle.poly_model.specs.Polynomial.{Polynomial}
 use Rattle.proof_steps.specs.Rules.{size_of}
-use Rattle.proof_steps.specs.Trees.{children, follow, expansion_of, tree_within, tree_at}
+use Rattle.proof_steps.specs.Trees.{children, expansion_of, tree_within, tree_at}
 use Rattle.proof_steps.specs.declared.piece.Node.{Node}
 use Rattle.proof_steps.specs.declared.piece.Outcome.{Outcome}
 use Rattle.proof_steps.specs.declared.piece.Outcome.TheVariants as outcome

@@ -8,7 +8,7 @@ use Rattle.poly_model.specs.declared.limits.TheConstants.{MOST_LETTERS}
 use Rattle.poly_model.specs.declared.limits.Reason.TheVariants as reason
 use Rattle.proof_steps.specs.Numbers.{item}
 use Rattle.proof_steps.specs.Reasons.{same_reason}
-use Rattle.proof_steps.specs.Rules.{is_valid, limit_of, reason_of, size_of}
+use Rattle.proof_steps.specs.Rules.{is_valid, limit_of, reason_of}
 use Rattle.proof_steps.specs.Trees.{children, lists_none, outcome_fits, expansion_of}
 use Rattle.proof_steps.specs.declared.piece.Node.{Node}
 use Rattle.proof_steps.specs.declared.piece.Outcome.{Outcome}
@@ -23,7 +23,7 @@ use Rattle.tree_laws.proofs.Worked.{worked}
 use Rattle.branch_pool.specs.Children.{Children, Paths}
 use Rattle.wang_split.specs.Expanded.{nodes_of}
 use Rattle.prove_run.specs.Branches.{joined, branches_of}
-use Rattle.prove_run.specs.Ready.{IsReady, IsWaiting}
+use Rattle.prove_run.specs.Ready.{IsWaiting}
 use Rattle.prove_run.proofs.Branches.{branches-unfold}
 use Rattle.prove_run.proofs.Ready.{AreReady, children-ready}
 

@@ -1,10 +1,9 @@
 -- The proofs of a program's problems, one after the other, are its log.
-use Rattle.std.proofs.Common.{◌≡◌, ◌<◌, ◌≤◌, ◌/◌, ◌++◌, ◌∷◌, ℕ, zero, suc, Bool, false, List, [], map, length, sym, ◌∙◌, ap, subst, arith, Ok}
+use Rattle.std.proofs.Common.{◌≡◌, ◌<◌, ◌++◌, ◌∷◌, ℕ, zero, suc, Bool, false, List, [], map, length, sym, ◌∙◌, ap, subst, arith, Ok}
 use Rattle.std.specs.Prelude.{All, IsTrue, ◌==◌}
 use Rattle.std.proofs.lemmas.List.{map-append}
 use Rattle.std.proofs.lemmas.List.Elements.{All-push}
 use Rattle.poly_model.specs.Names.{are_variables}
-use Rattle.poly_model.specs.declared.limits.TheConstants.{MOST_FUEL}
 use Rattle.gcl_names.specs.Sound.{IsSound}
 use Rattle.gcl_names.specs.declared.program.Program.{Program}
 use Rattle.algebraize.specs.Formed.{equations}
@@ -12,7 +11,7 @@ use Rattle.algebraize.specs.Problem.{problems_of}
 use Rattle.proof_steps.specs.Stated.{IsStated}
 use Rattle.proof_steps.specs.declared.problem.Problem.{Problem}
 use Rattle.proof_log.specs.Accepted.{IsAccepted}
-use Rattle.proof_log.specs.declared.limits.TheConstants.{MOST_PROOFS, VERSION}
+use Rattle.proof_log.specs.declared.limits.TheConstants.{VERSION}
 use Rattle.proof_log.specs.declared.log.Proof.{Proof}
 use Rattle.prove_run.specs.Logs.{proof_of, log_of, log_of_program}
 use Rattle.prove_run.specs.Whole.{IsPosed, IsWhole}

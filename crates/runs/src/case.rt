@@ -1,7 +1,10 @@
 // A run of the program, and what is to come of it.
 use command_line::gclc_run;
 use desk_io::{MemDesk, MemSink};
+use poly_model::Gaussian;
 use std::alloc::{AllocError, Global};
+use std::sync::Wait;
+use std::thread::Threads;
 
 /// What of a run the lines of a table add to.
 #[derive(Clone, Copy)]
@@ -98,11 +101,23 @@ impl Case {
     }
 
     /// Runs the program, and tells whether it ends with the status and the bytes that are to come.
-    pub fn comes_out(self, alloc: Global) -> Result<bool, AllocError> {
+    pub fn comes_out<R: Threads + Wait + Sync>(
+        self,
+        rt: &R,
+        alloc: Global,
+    ) -> Result<bool, AllocError> {
         let mut desk = MemDesk::new(self.files, vec![in alloc; self.read]?);
         let mut out = MemSink::new(alloc, self.room, vec![in alloc; self.put]?)?;
         let mut notes = MemSink::new(alloc, self.notes_room, vec![in alloc; 2]?)?;
-        let status = gclc_run(alloc, &self.words, &mut desk, &mut out, &mut notes);
+        let status = gclc_run(
+            rt,
+            alloc,
+            &Gaussian,
+            &self.words,
+            &mut desk,
+            &mut out,
+            &mut notes,
+        );
         Ok(
             status as u8 == self.status
                 && out.bytes() == self.out.as_slice()

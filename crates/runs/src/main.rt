@@ -7,10 +7,16 @@ mod table;
 
 use anyhow::Result;
 use std::fs;
+use std::rt::Files;
+use std::sync::Wait;
+use std::thread::Threads;
 use table::Table;
 
 // Runs the rows of a table, and gives the number of those that came out as it says.
-fn run_table(rt: &HostRuntime, name: &str) -> Result<u32> {
+fn run_table<R: Files + AllocGlobal + Print + Threads + Wait + Sync>(
+    rt: &R,
+    name: &str,
+) -> Result<u32> {
     let text = fs::read_to_string(rt, name)?;
     let mut table = Table::new(rt.alloc());
     let mut number: u32 = 0;
@@ -18,10 +24,10 @@ fn run_table(rt: &HostRuntime, name: &str) -> Result<u32> {
         number = number.saturating_add(1);
         match line.strip_prefix("from ") {
             Some(name) => table.put(&fs::read(rt, name)?)?,
-            None => table.take(number, line)?,
+            None => table.take(rt, number, line)?,
         }
     }
-    let (good, bad) = table.end()?;
+    let (good, bad) = table.end(rt)?;
     for line in bad.as_slice() {
         println!(rt; "{name}, line {line}: another answer")?;
     }

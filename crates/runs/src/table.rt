@@ -1,6 +1,8 @@
 // A table of runs, read line by line.
 use crate::case::{Case, Part};
 use std::alloc::{AllocError, Global};
+use std::sync::Wait;
+use std::thread::Threads;
 
 /// The number of runs that came out as the table says, the lines of those that did not, and the run that is being read.
 #[derive(Drop)]
@@ -32,9 +34,14 @@ impl Table {
     }
 
     /// Takes a line, which has this number. A line that is none of the table counts as a run that comes out otherwise.
-    pub fn take(&mut self, number: u32, line: &str) -> Result<(), AllocError> {
+    pub fn take<R: Threads + Wait + Sync>(
+        &mut self,
+        rt: &R,
+        number: u32,
+        line: &str,
+    ) -> Result<(), AllocError> {
         if let Some(words) = line.strip_prefix("run") {
-            self.finish()?;
+            self.finish(rt)?;
             self.case = Some(Case::new(self.alloc, number, words)?);
             return Ok(());
         }
@@ -116,10 +123,10 @@ impl Table {
     }
 
     // Runs the case that is read, if there is one.
-    fn finish(&mut self) -> Result<(), AllocError> {
+    fn finish<R: Threads + Wait + Sync>(&mut self, rt: &R) -> Result<(), AllocError> {
         if let Some(case) = self.case.take() {
             let line = case.line;
-            if case.comes_out(self.alloc)? {
+            if case.comes_out(rt, self.alloc)? {
                 self.good = self.good.saturating_add(1);
             } else {
                 self.bad.push(line)?;
@@ -129,8 +136,8 @@ impl Table {
     }
 
     /// Runs the last row, and gives the number of the runs that came out as the table says and the lines of the others.
-    pub fn end(mut self) -> Result<(u32, Vec<u32>), AllocError> {
-        self.finish()?;
+    pub fn end<R: Threads + Wait + Sync>(mut self, rt: &R) -> Result<(u32, Vec<u32>), AllocError> {
+        self.finish(rt)?;
         Ok((self.good, self.bad))
     }
 }

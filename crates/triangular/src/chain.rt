@@ -1,6 +1,6 @@
 // The reduction of the conclusions by a system.
-ghost use Rattle.std.specs.Prelude.{◌≡◌, ◌≤◌, ◌<◌, ◌^◌, [], Some, IfOk, map, length};
-ghost use Rattle.proof_steps.specs.declared.piece.LeafStatus.TheVariants.{Remainder};
+ghost use Rattle.std.specs.Prelude.{◌≡◌, ◌≤◌, ◌<◌, ◌^◌, ◌++◌, ◌∷◌, [], Some, IfOk, OnOk, map, length};
+ghost use Rattle.proof_steps.specs.declared.piece.LeafStatus.TheVariants.{Remainder, Unreduced};
 ghost use Rattle.poly_model.specs.declared.limits.TheConstants.{LEAF_UNITS, MOST_CONCLUSIONS};
 ghost use Rattle.proof_steps.specs.Chain.{chain_of};
 ghost use Rattle.term_store.specs.Changes.{Keeps, given_up};
@@ -12,7 +12,7 @@ ghost use Rattle.triangular.specs.Reducers.{HaveOwnClasses};
 use crate::reducer::{equation, first_of_class, reducing_class};
 use poly_model::OwnedPoly;
 use polynomials::{Poly, copy_in, copy_out};
-use proof_steps::{ChainStep, LeafStatus};
+use proof_steps::{ChainStep, LeafStatus, Reason};
 use pseudo_div::{Advance, step_on};
 use std::alloc::{AllocError, Global};
 use term_store::TermStore;
@@ -39,6 +39,29 @@ fn remainder<S: TermStore>(
     let copy = copy_out(alloc, s, p);
     give_up(s, p);
     Ok(Some(LeafStatus::Remainder { k, r: copy? }))
+}
+
+/// The k-th conclusion stays, where the next step by the equation number f is stopped.
+fn unreduced(k: u8, reason: Reason, f: usize) -> LeafStatus
+    requires { f < 2 ^ 16 }
+    ensures { result ≡ Unreduced k reason f }
+{
+    LeafStatus::Unreduced {
+        k,
+        reason,
+        f: f as u16,
+    }
+}
+
+/// One more step of a chain: the k-th conclusion is reduced by the equation number f.
+fn add_step(chain: &mut Chain, k: u8, f: usize, m: i128, r: OwnedPoly) -> Result<(), AllocError>
+    requires { f < 2 ^ 16 }
+    ensures { OnOk result (chain.new.steps.items
+        ≡ chain.old.steps.items ++ record { k = k; f = f; m = m; r = r } ∷ []) }
+{
+    let f = f as u16;
+    chain.steps.push(ChainStep { k, f, m, r })?;
+    Ok(())
 }
 
 /// Reduces the k-th conclusion as far as it goes, and gives its list up: the status where the chain
@@ -79,11 +102,7 @@ fn reduce_one<S: TermStore>(
             }
             Ok(Advance::Stopped(reason)) => {
                 give_up(s, rest);
-                return Ok(Some(LeafStatus::Unreduced {
-                    k,
-                    reason,
-                    f: f as u16,
-                }));
+                return Ok(Some(unreduced(k, reason, f)));
             }
             Ok(
                 Advance::Stepped {
@@ -93,15 +112,9 @@ fn reduce_one<S: TermStore>(
                     fuel,
                 },
             ) => {
-                let step = ChainStep {
-                    k,
-                    f: f as u16,
-                    m: multiplier,
-                    r: result,
-                };
-                if let Err(refused) = chain.steps.push(step) {
+                if let Err(refused) = add_step(chain, k, f, multiplier, result) {
                     give_up(s, next);
-                    return Err(refused.into());
+                    return Err(refused);
                 }
                 rest = next;
                 chain.left = fuel;

@@ -1,5 +1,5 @@
 -- The piece and the children of a node, by what is due there.
-use Rattle.std.proofs.Common.{◌≡◌, ◌-◌, ◌≤◌, ℕ, List, [], ◌∷◌, ◌++◌, map, refl, sym, ◌∙◌, ap, subst, arith}
+use Rattle.std.proofs.Common.{◌≡◌, ◌-◌, ◌≤◌, ℕ, List, [], ◌∷◌, map, refl, sym, ◌∙◌, ap, subst}
 use Rattle.std.specs.Prelude.{Option, Some, None}
 use Rattle.std.proofs.lemmas.List.{append-nil}
 use Rattle.poly_model.specs.Polynomial.{Polynomial}
@@ -8,7 +8,7 @@ use Rattle.proof_steps.specs.Rules.{made, reason_of, size_of}
 use Rattle.proof_steps.specs.Chain.{chain_of}
 use Rattle.proof_steps.specs.Work as work
 use Rattle.proof_steps.specs.Work.{Next}
-use Rattle.proof_steps.specs.Trees.{AsOutcome, bare, listing, recorded_as, expansion_recorded, expansion_tried, expansion_by, expansion_of}
+use Rattle.proof_steps.specs.Trees.{AsOutcome, listing, recorded_as, expansion_recorded, expansion_tried, expansion_by, expansion_of}
 use Rattle.proof_steps.specs.declared.piece.ChainStep.{ChainStep}
 use Rattle.proof_steps.specs.declared.piece.LeafStatus.{LeafStatus}
 use Rattle.proof_steps.specs.declared.piece.Node.{Node}

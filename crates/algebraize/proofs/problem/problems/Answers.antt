@@ -8,7 +8,7 @@ use Rattle.std.proofs.lemmas.List.{map_push}
 use Rattle.std.proofs.lemmas.Result.{err_from_is_err_and}
 use Rattle.gcl_reader.specs.Grammar.{Fails}
 use Rattle.gcl_names.specs.Sound.{Counts}
-use Rattle.algebraize.specs.Formed.{equations, is_own}
+use Rattle.algebraize.specs.Formed.{equations, is_own, is_quadratic}
 use Rattle.algebraize.specs.Problem.{problems_from}
 use Rattle.algebraize.proofs.Proves.{behind}
 use Rattle.std.specs.Cmp.Derive.{both_true}
@@ -41,6 +41,8 @@ loop-prove-preserved c =
       own = ap (list_all is_own) grown ∙ list_all-append is_own front (problem ∷ [])
           ∙ both_true c.loop-prove.invariant.own (both_true c.in_ok-system_of.ensures.own refl);
       stated = subst (All IsStated) (sym grown) (All-push IsStated front problem c.loop-prove.invariant.stated c.in_ok-system_of.ensures.stated);
+      quadratic = ap (list_all is_quadratic) grown ∙ list_all-append is_quadratic front (problem ∷ [])
+          ∙ both_true c.loop-prove.invariant.quadratic (both_true c.in_ok-system_of.ensures.quadratic refl);
     }
 
 pub returns-clause-value : goal.returns-clause-value

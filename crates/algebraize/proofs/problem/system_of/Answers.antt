@@ -3,6 +3,8 @@ use Rattle.poly_model.specs.Polynomial.{is_over}
 use Rattle.std.specs.List.{list_all}
 use Rattle.std.specs.Cmp.Derive.{both_true}
 use Rattle.algebraize.proofs.Over as over
+use Rattle.algebraize.proofs.Degrees as degrees
+use Rattle.algebraize.specs.Small.{is_of_degree}
 use Rattle.algebraize.proofs.Stated.{stated_problem}
 use Rattle.algebraize.proofs.Proves as proves
 use Rattle.gcl_names.specs.Sound.{nothing, Counts, after_all}
@@ -100,3 +102,13 @@ returns-clause-stated g c =
     proves.gives_ok_with c.problem_at.result (problem_at before c.index-acts-place.result s ps) c.problem_at.ensures.value c.problem_at.ensures.within (λ p is within.
     let h = proves.problem_at-ok before c.index-acts-place.result s ps (equations p) is in
     stated_problem before s ps p h.0 h.1 within)
+
+pub returns-clause-quadratic : goal.returns-clause-quadratic
+returns-clause-quadratic g c =
+    let before = take c.acts_before-place.result c.as_slice-acts.result.now in
+    let s = c.in-Prove.statement in
+    let ps = c.as_slice.result.now in
+    proves.gives_ok c.problem_at.result (problem_at before c.index-acts-place.result s ps) c.problem_at.ensures.value (λ p is.
+    let h = proves.problem_at-ok before c.index-acts-place.result s ps (equations p) is in
+    subst (λ (e : Equations). IsTrue (list_all (is_of_degree 2) e.hypotheses && list_all (is_of_degree 2) e.conclusions)) (sym h.0)
+    (both_true (degrees.quadratic_hypotheses before) (degrees.quadratic_conclusions before s ps)))

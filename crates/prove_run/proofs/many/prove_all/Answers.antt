@@ -1,5 +1,4 @@
-use Rattle.std.proofs.Common.{ap, subst, arith}
-use Rattle.proof_log.specs.declared.log.Proof.{Proof}
+use Rattle.std.proofs.Common.{arith}
 use Rattle.prove_run.proofs.Posed.{root-pays}
 use Rattle.prove_run.proofs.Proved.{first-stated, some-there, one-more}
 use Rattle.prove_run.proofs.many.prove_all.Goals as goal

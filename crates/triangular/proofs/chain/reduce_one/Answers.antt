@@ -142,9 +142,10 @@ returns-in-Ok-Stopped-clause-comes g c =
     let stop = subst (Advances t u rest c.loop-alloc.chain.left whole) c.in-Ok-Stopped.field-0-is c.in-Ok-Stopped.ensures.ok in
     λ cons others total before. chained.stopped E cons total c.args.k (x - 1) f R others c.loop-alloc.chain.steps.items c.loop-alloc.chain.left c.in-Ok-Stopped.reason long place.reducing place.first
     (beside.stop-is R F _ c.loop-alloc.chain.left c.in-Ok-Stopped.reason pick.here inv.poly.standard pick.poly.standard stop.0) (inv.goes cons others total before)
+    ∙ (λ i. (c.loop-alloc.chain.steps.items, sym c.unreduced.ensures i))
 
-pub give_up-requires-in-Err-push : goal.give_up-requires-in-Err-push
-give_up-requires-in-Err-push g c =
+pub give_up-requires-in-Err-add_step : goal.give_up-requires-in-Err-add_step
+give_up-requires-in-Err-add_step g c =
     let s = g.S.TermStore.state c.args.s.now in
     let t = g.S.TermStore.state c.loop-alloc.s in
     let base = given_up s (slot_of c.args.p) in
@@ -167,8 +168,8 @@ give_up-requires-in-Err-push g c =
     let step = subst (Advances t u rest c.loop-alloc.chain.left whole) c.in-Ok-Stepped.field-0-is c.in-Ok-Stepped.ensures.ok in
     making.makes-live (given_up t (slot_of rest)) u (slot_of next) step.3.makes
 
-pub returns-in-Err-push-clause-kept : goal.returns-in-Err-push-clause-kept
-returns-in-Err-push-clause-kept g c =
+pub returns-in-Err-add_step-clause-kept : goal.returns-in-Err-add_step-clause-kept
+returns-in-Err-add_step-clause-kept g c =
     let s = g.S.TermStore.state c.args.s.now in
     let t = g.S.TermStore.state c.loop-alloc.s in
     let base = given_up s (slot_of c.args.p) in
@@ -189,9 +190,9 @@ returns-in-Err-push-clause-kept g c =
     let result = c.in-Ok-Stepped.result in
     let m = c.in-Ok-Stepped.multiplier in
     let step = subst (Advances t u rest c.loop-alloc.chain.left whole) c.in-Ok-Stepped.field-0-is c.in-Ok-Stepped.ensures.ok in
-    let v = g.S.TermStore.state c.give_up-in-Err-push.new.s in
+    let v = g.S.TermStore.state c.give_up-in-Err-add_step.new.s in
     owning.keeps-then base (given_up t (slot_of rest)) v inv.under
-    (making.makes-freed (given_up t (slot_of rest)) u v (slot_of next) step.3.makes c.give_up-in-Err-push.ensures.lists c.give_up-in-Err-push.ensures.spare)
+    (making.makes-freed (given_up t (slot_of rest)) u v (slot_of next) step.3.makes c.give_up-in-Err-add_step.ensures.lists c.give_up-in-Err-add_step.ensures.spare)
 
 pub loop-alloc-preserved : goal.loop-alloc-preserved
 loop-alloc-preserved g c =
@@ -220,14 +221,14 @@ loop-alloc-preserved g c =
     let steps = c.loop-alloc.chain.steps.items in
     let left = c.loop-alloc.chain.left in
     let fits : SFits w128 m = search rules in
-    let items : steps ++ record { k = c.args.k; f = f; m = m; r = result } ∷ [] ≡ c.push.new.self.items =
-    ap (λ z. steps ++ record { k = c.args.k; f = f; m = z; r = result } ∷ []) (sym (to_z-of_z w128 m fits)) ∙ sym c.in_default.ensures.items in
+    let items : steps ++ record { k = c.args.k; f = f; m = m; r = result } ∷ [] ≡ c.add_step.new.chain.steps.items =
+    ap (λ z. steps ++ record { k = c.args.k; f = f; m = z; r = result } ∷ []) (sym (to_z-of_z w128 m fits)) ∙ sym c.in_default.ensures in
     record {
       poly = results.made-poly (given_up t (slot_of rest)) u next result made;
       under = owning.keeps-then base (given_up t (slot_of rest)) (given_up u (slot_of next)) inv.under
           (making.makes-freed (given_up t (slot_of rest)) u (given_up u (slot_of next)) (slot_of next) made.makes refl refl);
       goes = λ cons others total before.
-          subst (λ (q : Polynomial). Chains E cons total c.args.k (q ∷ others) c.push.new.self.items c.in-Ok-Stepped.fuel) (sym made.value)
+          subst (λ (q : Polynomial). Chains E cons total c.args.k (q ∷ others) c.add_step.new.chain.steps.items c.in-Ok-Stepped.fuel) (sym made.value)
           (subst (λ (l : List ChainStep × ℕ). Chains E cons total c.args.k (result ∷ others) l.0 l.1) (λ i. (items i, sym step.2 i))
           (chained.stepped E cons total c.args.k (x - 1) f R others steps left m result long place.reducing place.first
           (beside.free-is R F _ left (m, result) pick.here inv.poly.standard pick.poly.standard step.0 step.1)

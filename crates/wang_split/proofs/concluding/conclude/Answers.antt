@@ -1,4 +1,4 @@
-use Rattle.std.proofs.Common.{◌≡◌, ◌≤◌, [], subst, arith}
+use Rattle.std.proofs.Common.{◌≤◌, [], subst, arith}
 use Rattle.proof_steps.specs.Rules.{size_of}
 use Rattle.workbench.specs.Standing.{node_at}
 use Rattle.workbench.proofs.Benches as benches

@@ -1,12 +1,11 @@
-use Rattle.std.proofs.Common.{◌≡◌, ◌-◌, ◌≤◌, List, [], map, refl, sym, ◌∙◌, ap, subst, arith}
-use Rattle.poly_model.specs.Polynomial.{Polynomial}
+use Rattle.std.proofs.Common.{◌≡◌, ◌-◌, ◌≤◌, List, [], map, sym, ◌∙◌, ap, subst, arith}
 use Rattle.proof_steps.specs.Chain.{chain_of}
 use Rattle.proof_steps.specs.Rules.{size_of}
 use Rattle.proof_steps.specs.declared.piece.Outcome.TheVariants as outcome
 use Rattle.proof_steps.specs.declared.piece.ChainStep.{ChainStep}
 use Rattle.proof_steps.specs.declared.piece.LeafStatus.{LeafStatus}
 use Rattle.polynomials.specs.Held.{polynomial_at}
-use Rattle.workbench.specs.Standing.{AreHeld, beneath, held_at, node_at, poly_of}
+use Rattle.workbench.specs.Standing.{AreHeld, beneath, node_at, poly_of}
 use Rattle.workbench.proofs.Owning as owning
 use Rattle.workbench.proofs.Benches as benches
 use Rattle.workbench.proofs.Choice as choice

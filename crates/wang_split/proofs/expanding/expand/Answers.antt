@@ -1,4 +1,4 @@
-use Rattle.std.proofs.Common.{◌≡◌, [], ◌∙◌, ap, arith}
+use Rattle.std.proofs.Common.{◌∙◌, ap, arith}
 use Rattle.term_store.specs.Changes.{Keeps}
 use Rattle.workbench.specs.Standing.{beneath}
 use Rattle.workbench.proofs.Owning as owning

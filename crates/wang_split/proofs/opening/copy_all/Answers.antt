@@ -1,4 +1,4 @@
-use Rattle.std.proofs.Common.{◌≡◌, ◌∙◌, ◌∷◌, map, sym, subst, ap}
+use Rattle.std.proofs.Common.{◌∙◌, map, sym, subst}
 use Rattle.term_store.specs.Changes.{Keeps}
 use Rattle.term_store.proofs.Making as making
 use Rattle.polynomials.specs.Held.{slot_of}

@@ -2,7 +2,7 @@ use Rattle.std.proofs.Common.{inl, inr}
 use Rattle.command_line.specs.Table.{ProveOf}
 use Rattle.command_line.specs.Contract.{lent, views}
 use Rattle.command_line.proofs.Runs.{run_of}
-use Rattle.command_line.proofs.run.prove_one_run.Goals as goal
+use Rattle.command_line.proofs.run.proofs_run.Goals as goal
 
 pub returns-clause-run : goal.returns-clause-run
 returns-clause-run g c =
