@@ -13,3 +13,6 @@ pub mod Contract
 pub mod Statuses
 pub mod ExitCodes
 pub mod Drawn
+pub mod Assured
+pub mod Figures
+pub mod Headline

@@ -3,11 +3,13 @@ ghost use Rattle.std.specs.Prelude.{◌≡◌, ◌≤◌, ◌⊎◌, Some};
 ghost use Rattle.std.specs.Option.{option_copied};
 ghost use Rattle.desk_io.specs.Causes.{Rose};
 ghost use Rattle.command_line.specs.Contract.{IsRun, IsCheckRun, IsQuiet, LacksOne, lent, views};
+ghost use Rattle.command_line.specs.Headline.{Headline};
 ghost use Rattle.command_line.specs.Run.{Answers};
 ghost use Rattle.command_line.specs.Table.{IsAnswer, CheckOf, names_of};
 
 use crate::checking::{fetch_log, put_found};
 use crate::comparing::compare;
+use crate::laws::a_yes_is_assured;
 use crate::status::Status;
 use desk_io::{Desk, Sink};
 use poly_model::Domain;
@@ -64,6 +66,9 @@ pub fn check_run<D: Domain, K: Desk, S: Sink, N: Sink>(
         (lent desk.old out.old notes.old) (lent desk.new out.new notes.new)
         (Some (CheckOf log.now (option_copied file.entry))) result }
     ensures checked { IsCheckRun (option_copied file.entry) result }
+    ensures headline { Headline D.operations (Some (CheckOf log.now (option_copied file.entry)))
+        (K.held desk.old) result }
 {
+    a_yes_is_assured(domain);
     check_answered::<D, K, S, N>(alloc, domain, log, file, desk, out, notes)
 }

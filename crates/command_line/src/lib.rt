@@ -20,6 +20,6 @@ mod verdict_lines;
 mod workers;
 
 pub use check::check_run;
-pub use laws::answers_are_unique;
+pub use laws::{a_yes_is_assured, answers_are_unique, what_is_proved_is_assured};
 pub use run::{gclc_run, latex_run, prove_one_run, show_run, svg_run, system_run};
 pub use status::{Status, exit_code};

@@ -6,11 +6,13 @@ ghost use Rattle.desk_io.specs.Files.{Lacks};
 ghost use Rattle.command_line.specs.Table.{IsAnswer, TextOf, ProveOf, CheckOf, form_of};
 ghost use Rattle.command_line.specs.Command.{Command};
 ghost use Rattle.command_line.specs.Contract.{IsRun, IsTextRun, IsProofRun, IsCheckRun, IsQuiet, lent, views};
+ghost use Rattle.command_line.specs.Headline.{Headline};
 ghost use Rattle.command_line.specs.Pipeline.{svg_of, latex_of, system_of, show_of};
 ghost use Rattle.command_line.specs.Run.{Answers};
 
 use crate::check::check_run;
 use crate::invocation::{Invocation, TextForm, read_command};
+use crate::laws::a_yes_is_assured;
 use crate::pipeline::{LatexCommand, ShowCommand, SvgCommand, SystemCommand};
 use crate::prover::{Alone, Prover, Together};
 use crate::proving::put_file_proofs;
@@ -198,10 +200,8 @@ pub fn prove_one_run<K: Desk, S: Sink, N: Sink>(
     proofs_run::<Alone, K, S, N>(&Alone, alloc, name, desk, out, notes)
 }
 
-/// What the program does with the words after its name. What a check of a log has shown is told in the domain.
-///
-/// `prove FILE --workers N` has workers do each proof together, also where N is 1; no other form starts a thread.
-pub fn gclc_run<R: Threads + Wait + Sync, D: Domain, K: Desk, S: Sink, N: Sink>(
+// Reads the words and runs what they ask for. The call below says what follows.
+fn words_run<R: Threads + Wait + Sync, D: Domain, K: Desk, S: Sink, N: Sink>(
     rt: &R,
     alloc: Global,
     domain: &D,
@@ -233,4 +233,32 @@ pub fn gclc_run<R: Threads + Wait + Sync, D: Domain, K: Desk, S: Sink, N: Sink>(
         Invocation::Check(log, file) => check_run(alloc, domain, log, file, desk, out, notes),
         Invocation::Wrong => say(USAGE, Status::Usage, notes),
     }
+}
+
+/// What the program does with the words after its name. What a check of a log has shown is told in the domain.
+///
+/// `prove FILE --workers N` has workers do each proof together, also where N is 1; no other form starts a thread.
+pub fn gclc_run<R: Threads + Wait + Sync, D: Domain, K: Desk, S: Sink, N: Sink>(
+    rt: &R,
+    alloc: Global,
+    domain: &D,
+    words: &[String],
+    desk: &mut K,
+    out: &mut S,
+    notes: &mut N,
+) -> Status
+    ensures run { IsRun (views K.held K.faults S.written S.faults N.written N.faults)
+        (lent desk.old out.old notes.old) (lent desk.new out.new notes.new)
+        (form_of (map string_bytes words.now)) result }
+    ensures text { (command : Command) (name : List ℕ)
+        → form_of (map string_bytes words.now) ≡ Some (TextOf command name)
+        → IsTextRun (lent desk.old out.old notes.old) (lent desk.new out.new notes.new) result }
+    ensures proofs { (name : List ℕ) → form_of (map string_bytes words.now) ≡ Some (ProveOf name)
+        → IsProofRun result }
+    ensures checked { (log : List ℕ) (file : Option (List ℕ))
+        → form_of (map string_bytes words.now) ≡ Some (CheckOf log file) → IsCheckRun file result }
+    ensures headline { Headline D.operations (form_of (map string_bytes words.now)) (K.held desk.old) result }
+{
+    a_yes_is_assured(domain);
+    words_run::<R, D, K, S, N>(rt, alloc, domain, words, desk, out, notes)
 }

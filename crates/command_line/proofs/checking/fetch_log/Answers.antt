@@ -1,5 +1,6 @@
 use Rattle.std.proofs.Common.{Err, ap, refl, inl, inr, subst}
 use Rattle.poly_model.specs.declared.limits.TheConstants.{MOST_LOG_BYTES}
+use Rattle.desk_io.specs.Files.{Lacks}
 use Rattle.log_checker.specs.Checked.{FileJudged}
 use Rattle.command_line.specs.Answer.{read_fault, too_large}
 use Rattle.command_line.proofs.Dues.{given, due_large, due_fault}
@@ -17,7 +18,7 @@ returns-in-Err-TooLarge-clause-over g c = λ out.
     given _ _ _ too_large _ _ _ _ _
     (due_large _ _ c.args.name.now MOST_LOG_BYTES (λ files bytes a. ⊥)
     (λ file holds. subst (λ f. FileJudged (Err f) file) c.in-Err-TooLarge.field-0-is (c.in-Err-TooLarge.ensures.judged file holds))
-    (λ lacks. elim (c.in-Err-TooLarge.ensures.absent lacks) [ inl e ↦ (cc) | inr e ↦ (cc) ]))
+    (λ (lacks : Lacks (g.K.Desk.held c.args.desk.now) c.args.name.now). elim (c.in-Err-TooLarge.ensures.absent lacks) [ inl e ↦ (cc) | inr e ↦ (cc) ]))
     (c.say-in-Err-TooLarge.ensures.ends out)
 
 pub returns-in-Err-OutOfMemory-clause-over : goal.returns-in-Err-OutOfMemory-clause-over

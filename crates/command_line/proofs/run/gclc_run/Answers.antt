@@ -1,39 +1,8 @@
-use Rattle.std.proofs.Common.{None, inl, inr, refl, subst, arith}
-use Rattle.desk_io.specs.Causes.{Rose}
-use Rattle.command_line.specs.Answer.{usage}
-use Rattle.command_line.specs.Table.{IsAnswer}
-use Rattle.command_line.specs.Contract.{IsRun, lent, views}
-use Rattle.command_line.specs.Run.{Answers}
-use Rattle.command_line.proofs.Causes.{complete, cut_off}
-use Rattle.command_line.proofs.Decided.{decided}
-use Rattle.command_line.proofs.Dues.{given, due_over}
+use Rattle.std.proofs.Common.{map}
+use Rattle.std.specs.String.{string_bytes}
+use Rattle.command_line.specs.Table.{form_of}
 use Rattle.command_line.proofs.run.gclc_run.Goals as goal
 
-pub returns-in-Wrong-clause-run : goal.returns-in-Wrong-clause-run
-returns-in-Wrong-clause-run g c =
-    let held = g.K.Desk.held c.args.desk.now in
-    let faults = g.K.Desk.faults c.args.desk.now in
-    let out = g.S.Sink.written c.args.out.now in
-    let answered : Answers held (Rose faults faults) (IsAnswer None) out out (g.N.Sink.written c.args.notes.now) (g.N.Sink.written c.say.new.notes) c.say.result =
-    given held (Rose faults faults) (IsAnswer None) usage out out _ _ c.say.result
-    (due_over held (Rose faults faults) (IsAnswer None) usage (λ done unproved. refl) (λ e. cc) (λ files e. refl))
-    (c.say.ensures.ends out) in
-    subst (λ form. IsRun (views g.K.Desk.held g.K.Desk.faults g.S.Sink.written g.S.Sink.faults g.N.Sink.written g.N.Sink.faults)
-    (lent c.args.desk.now c.args.out.now c.args.notes.now) (lent c.args.desk.now c.args.out.now c.say.new.notes) form c.say.result)
-    c.in-Wrong.ensures
-    (record {
-      answered = answered;
-      decided = decided held _ (IsAnswer None) _ _ _ _ c.say.result answered;
-      complete = λ files told desk_quiet out_quiet notes_quiet.
-          complete held files _ (IsAnswer None) _ _ _ _ c.say.result told answered desk_quiet (λ put. notes_quiet (c.say.ensures.write_fault put));
-      cut_off = λ files told put. cut_off held _ (IsAnswer None) _ _ _ _ c.say.result answered files told put;
-      usage = λ e. refl;
-      usage_then = λ e. c.say.ensures.status;
-      idle = λ e. (refl, refl);
-      read_fault = λ e. absurd (elim c.say.ensures.status [ inl u ↦ (cc) | inr w ↦ (cc) ]);
-      write_fault = λ put. inr (c.say.ensures.write_fault put);
-      untouched = λ quiet. refl;
-      unsaid = λ e. absurd (elim c.say.ensures.status [ inl u ↦ (cc) | inr w ↦ (cc) ]);
-      same = refl;
-      later = (omega arith, omega arith, c.say.ensures.later);
-    })
+pub returns-clause-headline : goal.returns-clause-headline
+returns-clause-headline g c =
+    c.a_yes_is_assured.ensures (form_of (map string_bytes c.args.words.now)) (g.K.Desk.held c.args.desk.now) c.words_run.result c.words_run.ensures.run.decided

@@ -1,0 +1,5 @@
+use Rattle.command_line.proofs.Headline.{headline}
+use Rattle.command_line.proofs.laws.a_yes_is_assured.Goals as goal
+
+pub returns : goal.returns
+returns g c = headline g.D.Domain.operations c.trees_cover.ensures c.verdicts_hold.ensures c.equations_mean_their_figure.ensures
