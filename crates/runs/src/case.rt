@@ -15,8 +15,8 @@ pub enum Part {
     Notes,
 }
 
-/// A run: its words, the files that the desk has, the number of the read and of the put to out that fail, from 1, the rooms of
-/// the sinks, and the status and the bytes that are to come of it. A second put to notes always fails.
+/// A run: its words, the files that the desk has, the numbers of the read, of the put to out and of the put to notes that fail,
+/// from 1, the rooms of the sinks, and the status and the bytes that are to come of it.
 #[derive(Drop)]
 pub struct Case {
     pub line: u32,
@@ -24,6 +24,7 @@ pub struct Case {
     pub files: Vec<(String, Vec<u8>)>,
     pub read: u64,
     pub put: u64,
+    pub note: u64,
     pub room: usize,
     pub notes_room: usize,
     pub status: u8,
@@ -44,6 +45,7 @@ impl Case {
             files: Vec::new(alloc),
             read: 0,
             put: 0,
+            note: 2,
             room: 1_000_000,
             notes_room: 1_000,
             status: 0,
@@ -108,7 +110,7 @@ impl Case {
     ) -> Result<bool, AllocError> {
         let mut desk = MemDesk::new(self.files, vec![in alloc; self.read]?);
         let mut out = MemSink::new(alloc, self.room, vec![in alloc; self.put]?)?;
-        let mut notes = MemSink::new(alloc, self.notes_room, vec![in alloc; 2]?)?;
+        let mut notes = MemSink::new(alloc, self.notes_room, vec![in alloc; self.note]?)?;
         let status = gclc_run(
             rt,
             alloc,

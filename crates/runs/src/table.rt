@@ -77,6 +77,7 @@ impl Table {
             "status" => case.status = value.parse().unwrap_or(255),
             "read" => case.read = number,
             "put" => case.put = number,
+            "note" => case.note = number,
             "room" => case.room = value.parse().unwrap_or(0),
             "saying" => case.notes_room = value.parse().unwrap_or(0),
             "percents" => case.fill(self.part, number)?,
