@@ -1,5 +1,5 @@
 -- The answer that is due where a log was checked.
-use Rattle.std.proofs.Common.{◌≡◌, ◌<◌, ◌⊎◌, ◌↔◌, ℕ, List, [], ◌∷◌, length, map, Option, None, Some, Result, Ok, Err, Bool, true, false, IsTrue, inl, inr, refl, sym, ◌∙◌, ap, subst}
+use Rattle.std.proofs.Common.{◌≡◌, ◌<◌, ℕ, List, [], ◌∷◌, length, map, Option, None, Some, Result, Ok, Err, Bool, true, false, inl, inr, refl, sym, ◌∙◌, ap, subst}
 use Rattle.poly_model.specs.declared.limits.TheConstants.{MOST_LOG_BYTES}
 use Rattle.desk_io.specs.Files.{Files, Holds, Lacks, file_of}
 use Rattle.gcl_reader.specs.declared.limits.TheConstants.{MOST_BYTES}
@@ -13,7 +13,7 @@ use Rattle.log_checker.specs.declared.checking.Checked.{Checked}
 use Rattle.command_line.specs.Answer.{Answer, refused}
 use Rattle.command_line.specs.Checking.{IsChecked, IsCheckedAgainst, stated_in, other_problems}
 use Rattle.command_line.specs.Found.{Finds, answer_of, Compares, IsAnswerFor}
-use Rattle.command_line.specs.Run.{Whole, CutOff, Nothing, Ends, Answers, GivesOne}
+use Rattle.command_line.specs.Run.{Ends, Answers, GivesOne}
 use Rattle.command_line.specs.Table.{CheckOf, OfFile, OfFileAlone, IsAnswer}
 use Rattle.command_line.specs.declared.checking.Found.{Found}
 use Rattle.command_line.specs.declared.checking.Found.TheVariants as found

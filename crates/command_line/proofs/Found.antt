@@ -1,5 +1,5 @@
 -- What is found of a log, and the answers to it.
-use Rattle.std.proofs.Common.{◌≡◌, ◌⊎◌, ℕ, List, [], ◌∷◌, length, map, Option, None, Some, Result, Ok, Err, All, IsTrue, inl, inr, true, refl, sym, ◌∙◌, ap, subst}
+use Rattle.std.proofs.Common.{◌≡◌, ℕ, List, [], ◌∷◌, length, map, Result, Ok, Err, IsTrue, inl, inr, true, refl, sym, ◌∙◌, ap, subst}
 use Rattle.std.specs.List.{list_all, AllByRecursion}
 use Rattle.std.proofs.lemmas.Bool.{and_parts}
 use Rattle.std.proofs.lemmas.List.Elements.{All-from_recursion}
@@ -25,7 +25,7 @@ use Rattle.command_line.specs.VerdictLines.{problems_in, verdicts_in}
 use Rattle.command_line.specs.declared.checking.Found.{Found}
 use Rattle.command_line.specs.declared.checking.Found.TheVariants as found
 use Rattle.command_line.specs.declared.status.Status.TheVariants.{WriteFault}
-use Rattle.command_line.proofs.Table.{silent_text, proper_text}
+use Rattle.command_line.proofs.Table.{silent_text}
 
 -- ---- only the variables of its problem occur in a verdict
 each_over : (n : ℕ) (ps : List Polynomial) → list_all (is_over n) ps ≡ true → AllByRecursion (IsOver n) ps

@@ -1,12 +1,12 @@
 -- No form has two answers over the same files.
-use Rattle.std.proofs.Common.{◌≡◌, ◌⊎◌, ℕ, List, [], ◌∷◌, length, get_or, Option, None, Some, Result, Ok, Err, Bool, true, false, nat_lt, inl, inr, sym, ◌∙◌, ap, subst}
+use Rattle.std.proofs.Common.{◌≡◌, ℕ, List, [], ◌∷◌, length, get_or, Option, None, Some, Result, Ok, Err, Bool, true, false, nat_lt, inl, inr, sym, ◌∙◌, ap, subst}
 use Rattle.gcl_reader.specs.declared.refusal.Refusal.{Refusal}
 use Rattle.algebraize.specs.Equations.{Equations}
 use Rattle.log_checker.specs.Answers.{Finding}
 use Rattle.log_checker.proofs.Exact.{one_finding}
 use Rattle.desk_io.specs.Files.{Files, file_of}
 use Rattle.command_line.specs.Answer.{Answer, too_large}
-use Rattle.command_line.specs.Checking.{answer_to, IsChecked, HasProblems, IsAnswerAgainst, IsCompared, IsComparedWith, stated_in}
+use Rattle.command_line.specs.Checking.{answer_to, IsChecked, IsAnswerAgainst, IsCompared, IsComparedWith, stated_in}
 use Rattle.command_line.specs.Table.{Form, TextOf, ProveOf, CheckOf, Source, OfFile, OfSources, IsAnswerOver, IsAnswer, sources_of}
 
 -- There is at most one answer.

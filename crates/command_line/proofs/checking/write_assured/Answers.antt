@@ -1,4 +1,4 @@
-use Rattle.std.proofs.Common.{◌≡◌, ◌++◌, ◌∙◌, codes, ap, sym}
+use Rattle.std.proofs.Common.{◌∙◌, codes, ap, sym}
 use Rattle.desk_io.proofs.Writing.{first_failed, last_writes}
 use Rattle.command_line.specs.Checking.{assured_text}
 use Rattle.command_line.specs.VerdictLines.{verdicts_text}

@@ -1,5 +1,5 @@
 use Rattle.std.proofs.Common.{arith}
-use Rattle.desk_io.proofs.Going.{wrote, stopped, ended}
+use Rattle.desk_io.proofs.Going.{wrote, stopped}
 use Rattle.command_line.proofs.VerdictLines.{first_line, over_next}
 use Rattle.command_line.proofs.checking.write_verdicts.Goals as goal
 
