@@ -1,6 +1,6 @@
 #!/usr/bin/env bash
 # Compares the wall times that `gclc prove FILE --workers N` takes with one worker and with two, for figures of the gallery whose
-# trees are wide: the best of three runs each, taken in turn. Workers share the branches of one tree, so the nodes of the widest
+# trees are wide: the best of five runs each, taken in turn. Workers share the branches of one tree, so the nodes of the widest
 # tree bound what a second worker can gain. Each log must be that of `gclc prove FILE`. Wall times depend on what else the
 # machine is doing.
 set -eu
@@ -25,7 +25,7 @@ compare() {
     local one two took
     one=$(run_time "$1" 1)
     two=$(run_time "$1" 2)
-    for _ in 2 3; do
+    for _ in 2 3 4 5; do
         took=$(run_time "$1" 1)
         one=$((took < one ? took : one))
         took=$(run_time "$1" 2)
@@ -39,6 +39,6 @@ compare() {
 }
 
 printf '| figure | nodes | in the widest tree | one worker | two workers | ratio |\n|---|---|---|---|---|---|\n'
-for name in simson napoleon euler nine_points; do
+for name in simson euler nine_points radical_centre pappus desargues; do
     compare "$top/examples/$name.gcl"
 done
