@@ -2,3 +2,4 @@ pub mod Logs
 pub mod Whole
 pub mod Ready
 pub mod Branches
+pub mod Turns
