@@ -1,6 +1,6 @@
 #!/usr/bin/env bash
-# Compares the wall times that `gclc prove FILE --workers N` takes with one worker and with two, for figures of the gallery whose
-# trees are wide: the best of five runs each, taken in turn. Workers share the branches of one tree, so the nodes of the widest
+# Compares the wall times that `gclc prove FILE --workers N` takes with one worker and with two, for a figure that it makes and for
+# figures of the gallery, whose trees are wide: the best of five runs each, taken in turn. Workers share the branches of one tree, so the nodes of the widest
 # tree bound what a second worker can gain. Each log must be that of `gclc prove FILE`. Wall times depend on what else the
 # machine is doing.
 set -eu
@@ -38,7 +38,22 @@ compare() {
     ' "$work/alone"
 }
 
+# Two triangles in perspective, whose sides meet on a line: a tree of some hundred nodes.
+make_wide() {
+    printf 'point S 36 83\npoint A 9 13\npoint B 119 68\npoint C 85 37\n'
+    for corner in C A B; do printf "online %s' S %s\n" "$corner" "$corner"; done
+    set -- B C A B
+    for meet in X Y Z; do
+        printf "line %s %s %s\nline %s' %s' %s'\nintersec %s %s %s'\n" \
+            "l$meet" "$1" "$2" "l$meet" "$1" "$2" "$meet" "l$meet" "l$meet"
+        shift
+    done
+    printf 'prove { collinear X Y Z }\n'
+}
+
 printf '| figure | nodes | in the widest tree | one worker | two workers | ratio |\n|---|---|---|---|---|---|\n'
-for name in simson euler nine_points radical_centre pappus desargues; do
+make_wide >"$work/wide.gcl"
+compare "$work/wide.gcl"
+for name in simson euler nine_points radical_centre pappus; do
     compare "$top/examples/$name.gcl"
 done
