@@ -23,5 +23,3 @@ pub use proof_steps::Problem;
 pub use ratio::{MILLIONTHS, MOST_MILLIONTHS};
 pub use system::write_system;
 
-#[cfg(test)]
-mod system_tests;

@@ -8,8 +8,6 @@ mod book;
 mod event;
 mod find;
 pub mod laws;
-#[cfg(test)]
-mod tests;
 
 pub use answers::{Gone, Idle, PathState, Unsplit};
 pub use book::Book;

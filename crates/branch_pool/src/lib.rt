@@ -8,8 +8,6 @@ pub mod laws;
 mod rule;
 mod run;
 mod seat;
-#[cfg(test)]
-mod tests;
 mod whole;
 mod work;
 

@@ -14,6 +14,3 @@ pub use limits::{
 };
 pub use line::{direction, farther, line_with, midway, normal, offset, same_spot};
 pub use vector::Vector;
-
-#[cfg(test)]
-mod tests;

@@ -10,6 +10,3 @@ mod spots;
 
 pub use placing::place;
 pub use spots::Spots;
-
-#[cfg(test)]
-mod tests;

@@ -18,6 +18,3 @@ pub use limits::{MOST_DECIMALS, MOST_MILLIONTHS, MOST_TICKS, TICK_DECIMALS, TICK
 pub use reading::read_fix;
 pub use row::Row;
 pub use spot::{Spot, ticks, write_ticks};
-
-#[cfg(test)]
-mod tests;

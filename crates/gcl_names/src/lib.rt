@@ -14,6 +14,3 @@ mod table;
 pub use limits::{MOST_POINTS, MOST_PROVES};
 pub use program::{Act, Deed, Program};
 pub use resolution::resolve;
-
-#[cfg(test)]
-mod tests;

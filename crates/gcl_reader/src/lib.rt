@@ -23,6 +23,3 @@ pub use showing::{show, shown_is_read};
 pub use span::Span;
 pub use table::parameters_of;
 pub use word::{Parameter, Range, Side, Statement, Word};
-
-#[cfg(test)]
-mod tests;

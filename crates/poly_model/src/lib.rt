@@ -25,6 +25,3 @@ pub use owned::OwnedPoly;
 pub use row::Row;
 pub use term::{Term, are_standard, compare_monomials};
 pub use vars::{VarName, Vars};
-
-#[cfg(test)]
-mod tests;

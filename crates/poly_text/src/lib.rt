@@ -13,6 +13,3 @@ pub use laws::{texts_are_plain, texts_are_unique};
 pub use pieces::read_number;
 pub use printing::{print_poly, write_variable};
 pub use reading::read_poly;
-
-#[cfg(test)]
-mod tests;

@@ -31,6 +31,3 @@ pub use log::{Log, Proof};
 pub use reader::{LogFault, LogReader};
 pub use words::word_text;
 pub use writing::write_log;
-
-#[cfg(test)]
-mod tests;

@@ -5,8 +5,6 @@ mod calls;
 mod seats;
 mod space;
 mod store;
-#[cfg(test)]
-mod tests;
 mod vec_store;
 
 pub use store::{Slot, StoreFault, TermStore};

@@ -5,8 +5,6 @@
 mod concluding;
 mod expanding;
 mod opening;
-#[cfg(test)]
-mod tests;
 mod working;
 
 pub use expanding::expand;
