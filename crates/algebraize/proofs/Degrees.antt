@@ -1,6 +1,6 @@
 -- The equations of a figure are of degree at most 2.
 use Rattle.std.proofs.Common.{◌≡◌, ℕ, ◌+◌, ◌≤◌, zero, suc, List, [], ◌∷◌, map, replicate, set, refl, sym, ◌∙◌, ap, subst, arith, Bool, true, nat_le}
-use Rattle.std.specs.Prelude.{ℤ}
+use Rattle.std.specs.Prelude.{ℤ, pos}
 use Rattle.std.specs.List.{list_all, sum}
 use Rattle.std.specs.Cmp.{first_so, second_so}
 use Rattle.std.specs.Cmp.Derive.{both_true}
@@ -17,6 +17,7 @@ use Rattle.algebraize.specs.declared.layout.Coordinate.TheVariants as coordinate
 use Rattle.algebraize.specs.Small.{is_of_degree}
 use Rattle.algebraize.specs.Vectors.{Vector, plus, minus, twice, times, dot, cross, sq_difference}
 use Rattle.algebraize.specs.Curves.{no_curves}
+use Rattle.algebraize.specs.Ratio.{numerator, denominator}
 use Rattle.algebraize.specs.Rows as row
 use Rattle.algebraize.specs.Figure.{conclusion}
 use Rattle.algebraize.specs.Layout.{layout_of}
@@ -24,7 +25,7 @@ use Rattle.algebraize.specs.Equations.{polynomials, coordinate_polynomial, place
 use Rattle.algebraize.proofs.Every.{Multiply, every-with_entry, every-sum, every-negative, every-divided, every-product, le-more, le-sum}
 use Rattle.algebraize.proofs.Multiples.{integer-constant}
 use Rattle.algebraize.proofs.Small.{le_true}
-use Rattle.algebraize.proofs.Table.{Each, IsBound, FigureFits, acts-fine, conclusion-fine, no_curves-fit}
+use Rattle.algebraize.proofs.Table.{Each, IsBound, FigureFits, acts-fine, all-sized, conclusion-fine, no_curves-fit}
 
 -- ---- monomials
 
@@ -106,7 +107,7 @@ linear-centred x y c hx hy hc = linear-minus (plus polynomials x y) (twice polyn
 
 -- ---- the rows
 
-linear : IsBound IsLinear IsLinear IsQuadratic
+linear : IsBound (λ t. Unit {0}) IsLinear IsLinear IsQuadratic
 linear = record {
   origin = (refl, refl);
   still = (refl, refl);
@@ -127,7 +128,9 @@ linear = record {
       let v = minus polynomials x c in
       let w = minus polynomials v b in
       quadratic-coordinates (plus polynomials w a) (linear-plus w a (linear-minus v b (linear-minus x c hx hc) hb) ha);
-  division = λ n d x a b hx ha hb.
+  division = λ q x a b hs hx ha hb.
+      let n = numerator q in
+      let d = pos (denominator q) in
       let v = times polynomials (integer_in polynomials d) x in
       let w = times polynomials (integer_in polynomials d) a in
       let u = minus polynomials b a in
@@ -151,7 +154,7 @@ quadratic-parts (p ∷ ps) h = both_true (every-divided (sums_to 2) (begins_nega
 pub quadratic_hypotheses : (acts : List Act) → list_all (is_of_degree 2) (hypotheses_of acts) ≡ true
 quadratic_hypotheses acts =
     quadratic-parts (expressions_of acts)
-    (acts-fine linear (general_figure (layout_of acts)) no_curves acts (linear-places (layout_of acts).places) (no_curves-fit linear))
+    (acts-fine linear (general_figure (layout_of acts)) no_curves acts (all-sized _ (λ t. tt) acts) (linear-places (layout_of acts).places) (no_curves-fit linear))
 
 pub quadratic_conclusions : (acts : List Act) (s : Statement) (points : List ℕ) → list_all (is_of_degree 2) (conclusions_of acts s points) ≡ true
 quadratic_conclusions acts s points =

@@ -12,6 +12,7 @@ pub mod Over
 pub mod Lengths
 pub mod Table
 pub mod Degrees
+pub mod Limits
 pub mod Stated
 pub mod Effects
 pub mod OtherWords

@@ -24,13 +24,14 @@ use Rattle.algebraize.specs.declared.new_points.NewPoints.{NewPoints}
 use Rattle.algebraize.specs.declared.new_points.NewPoints.TheVariants as new
 use Rattle.algebraize.specs.Vectors.{Vector, coordinates, plus, twice}
 use Rattle.algebraize.specs.Curves.{Curves, no_curves}
+use Rattle.algebraize.specs.Ratio.{numerator, denominator}
 use Rattle.algebraize.specs.Rows as row
 use Rattle.algebraize.specs.Figure.{Figure, effect, conditions, with_effect, conditions_from, conclusion}
 use Rattle.algebraize.specs.Layout.{Layout, layout_of, layout_from, new_points, with_points, empty, with_u, with_place, next}
 use Rattle.algebraize.specs.Formed.{equations}
 use Rattle.algebraize.specs.Equations.{Equations, equations_of, polynomials, coordinate_polynomial, places_of, general_figure, expressions_of, hypotheses_of, conclusions_of}
 use Rattle.algebraize.proofs.Lengths.{Within, within-plus, within-minus, within-twice, within-times, within-rot, dot-terms, cross-terms, sq_difference-terms}
-use Rattle.algebraize.proofs.Table.{Each, IsBound, FigureFits, IsConclusion, acts-fine, conclusion-fine, no_curves-fit}
+use Rattle.algebraize.proofs.Table.{Each, IsBound, FigureFits, IsConclusion, acts-fine, all-sized, conclusion-fine, no_curves-fit}
 use Rattle.algebraize.proofs.Over.{one_member, over_hypotheses, over_conclusions}
 use Rattle.algebraize.proofs.Small.{length-primitive_part, le_true}
 use Rattle.algebraize.proofs.Related as related
@@ -50,7 +51,7 @@ within-centred x y c hx hy hc =
     within-minus 2 1 (plus polynomials x y) (twice polynomials c) (within-plus 1 1 x y hx hy) (within-twice c hc)
 
 -- A coordinate of a place has at most one term, and one of a direction at most two.
-brief : IsBound (Within 1) (Within 2) IsBrief
+brief : IsBound (λ t. Unit {0}) (Within 1) (Within 2) IsBrief
 brief = record {
   origin = (omega arith, omega arith);
   still = (omega arith, omega arith);
@@ -66,7 +67,9 @@ brief = record {
   midpoint = λ m a b hm ha hb. brief-coordinates 3 _ (omega arith) (within-minus 2 1 _ b (within-minus 1 1 _ a (within-twice m hm) ha) hb);
   translation = λ x a b c hx ha hb hc.
       brief-coordinates 4 _ (omega arith) (within-plus 3 1 _ a (within-minus 2 1 _ b (within-minus 1 1 x c hx hc) hb) ha);
-  division = λ n d x a b hx ha hb.
+  division = λ q x a b hs hx ha hb.
+      let n = numerator q in
+      let d = pos (denominator q) in
       brief-coordinates 4 _ (omega arith)
       (within-minus 2 2 _ _ (within-minus 1 1 _ _ (within-times 1 d x hx) (within-times 1 d a ha)) (within-times 2 n _ (within-minus 1 1 b a hb ha)));
 }
@@ -178,7 +181,7 @@ hypotheses-stated acts within = record {
   parts = own_parts (expressions_of acts) _
       (related.kept-acts descends _ _ no_curves no_curves acts (descending-places (layout_of acts).places) (related.none-kept descends));
   brief = brief_parts (expressions_of acts)
-      (acts-fine brief (general_figure (layout_of acts)) no_curves acts (single-places (layout_of acts).places) (no_curves-fit brief));
+      (acts-fine brief (general_figure (layout_of acts)) no_curves acts (all-sized _ (λ t. tt) acts) (single-places (layout_of acts).places) (no_curves-fit brief));
 }
 
 is_conclusion : (acts : List Act) (s : Statement) (points : List ℕ) → IsConclusion brief (conclusion polynomials (general_figure (layout_of acts)) s points)

@@ -1,5 +1,5 @@
 -- What the rows of the tables are made of. A bound that holds of what is made of places and directions, as each row makes it,
--- holds of each polynomial that a program makes zero or states.
+-- with ratios that are sized, holds of each polynomial that a program with such ratios makes zero or states.
 use Rattle.std.proofs.Common.{rules, ◌<◌, ◌≤◌, ℕ, zero, suc, List, [], ◌∷◌, ◌++◌, length, get_or, map, arith}
 use Rattle.std.specs.Prelude.{ℤ, pos}
 use Rattle.poly_model.specs.Polynomial.{Polynomial}
@@ -24,8 +24,25 @@ each-append : (Fine : Polynomial → Type 0) (ps qs : List Polynomial) → Each 
 each-append Fine [] qs a b = b
 each-append Fine (p ∷ ps) qs a b = (a.0, each-append Fine ps qs a.1 b)
 
+-- The ratio of a deed is sized, if it has one.
+abbrev pub IsSized : (ℤ → Type 0) → Deed → Type 0
+IsSized Sized (deed.Towards x a b t) = Sized t
+IsSized Sized d = Unit {0}
+
+abbrev pub AllSized : (ℤ → Type 0) → List Act → Type 0
+AllSized Sized [] = Unit {0}
+AllSized Sized (a ∷ acts) = IsSized Sized a.deed × AllSized Sized acts
+
+sized-deed : (Sized : ℤ → Type 0) → ((t : ℤ) → Sized t) → (d : Deed) → IsSized Sized d
+sized-deed Sized h (deed.Towards x a b t) = h t
+sized-deed Sized h d = search rules
+
+pub all-sized : (Sized : ℤ → Type 0) → ((t : ℤ) → Sized t) → (acts : List Act) → AllSized Sized acts
+all-sized Sized h [] = tt
+all-sized Sized h (a ∷ acts) = (sized-deed Sized h a.deed, all-sized Sized h acts)
+
 -- A bound on places, on the directions of lines, and on what the rows make of them.
-pub record IsBound (Place Way : Vector Polynomial → Type 0) (Fine : Polynomial → Type 0) : Type 0 where
+pub record IsBound (Sized : ℤ → Type 0) (Place Way : Vector Polynomial → Type 0) (Fine : Polynomial → Type 0) : Type 0 where
   pub origin : Place (polynomials.zero, polynomials.zero)
   pub still : Way (polynomials.zero, polynomials.zero)
   pub one : Fine polynomials.one
@@ -39,9 +56,10 @@ pub record IsBound (Place Way : Vector Polynomial → Type 0) (Fine : Polynomial
   pub along_centred : (v x y c : Vector Polynomial) → Way v → Place x → Place y → Place c → Fine (cross polynomials v (row.centred polynomials x y c))
   pub midpoint : (m a b : Vector Polynomial) → Place m → Place a → Place b → Each Fine (row.midpoint polynomials m a b)
   pub translation : (x a b c : Vector Polynomial) → Place x → Place a → Place b → Place c → Each Fine (row.translation polynomials x a b c)
-  pub division : (n d : ℤ) (x a b : Vector Polynomial) → Place x → Place a → Place b → Each Fine (row.division polynomials n d x a b)
+  pub division : (t : ℤ) (x a b : Vector Polynomial) → Sized t → Place x → Place a → Place b
+      → Each Fine (row.division polynomials (numerator t) (pos (denominator t)) x a b)
 
-module _ {Place Way : Vector Polynomial → Type 0} {Fine : Polynomial → Type 0} (B : IsBound Place Way Fine) where
+module _ {Sized : ℤ → Type 0} {Place Way : Vector Polynomial → Type 0} {Fine : Polynomial → Type 0} (B : IsBound Sized Place Way Fine) where
   -- figures
   abbrev pub FigureFits : Figure Polynomial → Type 0
   FigureFits [] = Unit {0}
@@ -125,12 +143,13 @@ module _ {Place Way : Vector Polynomial → Type 0} {Fine : Polynomial → Type 
   EffectFits (NewCircle c) = CircleFits c
   EffectFits (Conditions ps) = Each Fine ps
 
-  effect-fits : (f : Figure Polynomial) (c : Curves Polynomial) (d : Deed) → FigureFits f → CurvesFit c → EffectFits (effect polynomials f c d)
-  effect-fits f c (deed.Line l a b) hf hc = fits-along _ _ (B.between _ _ (place f a hf) (place f b hf)) (place f a hf)
-  effect-fits f c (deed.Circle k a b) hf hc = (place f a hf, place f b hf)
-  effect-fits f c (deed.Intersec x a b) hf hc =
+  effect-fits : (f : Figure Polynomial) (c : Curves Polynomial) (d : Deed) → IsSized Sized d → FigureFits f → CurvesFit c
+      → EffectFits (effect polynomials f c d)
+  effect-fits f c (deed.Line l a b) hs hf hc = fits-along _ _ (B.between _ _ (place f a hf) (place f b hf)) (place f a hf)
+  effect-fits f c (deed.Circle k a b) hs hf hc = (place f a hf, place f b hf)
+  effect-fits f c (deed.Intersec x a b) hs hf hc =
       ((line-fits _ a hc.lines).incidence _ (place f x hf), ((line-fits _ b hc.lines).incidence _ (place f x hf), tt))
-  effect-fits f c (deed.CutLine x y k l) hf hc =
+  effect-fits f c (deed.CutLine x y k l) hs hf hc =
       let on = line-fits _ l hc.lines in
       let round = circle-fits _ k hc.circles in (
         on.incidence _ (place f x hf),
@@ -139,7 +158,7 @@ module _ {Place Way : Vector Polynomial → Type 0} {Fine : Polynomial → Type 
           (on.incidence _ (place f y hf), (B.across_centred _ _ _ _ on.direction (place f x hf) (place f y hf) round.0, tt)),
         ),
       )
-  effect-fits f c (deed.CutCircle x y k m) hf hc =
+  effect-fits f c (deed.CutCircle x y k m) hs hf hc =
       let first = circle-fits _ k hc.circles in
       let second = circle-fits _ m hc.circles in
       let centres = B.between _ _ first.0 second.0 in (
@@ -152,20 +171,20 @@ module _ {Place Way : Vector Polynomial → Type 0} {Fine : Polynomial → Type 
           ),
         ),
       )
-  effect-fits f c (deed.Midpoint m a b) hf hc = B.midpoint _ _ _ (place f m hf) (place f a hf) (place f b hf)
-  effect-fits f c (deed.Med l a b) hf hc = fits-bisector _ _ (place f a hf) (place f b hf)
-  effect-fits f c (deed.Perp p a l) hf hc = fits-across _ _ (line-fits _ l hc.lines).direction (place f a hf)
-  effect-fits f c (deed.Parallel p a l) hf hc = fits-along _ _ (line-fits _ l hc.lines).direction (place f a hf)
-  effect-fits f c (deed.Foot p a l) hf hc =
+  effect-fits f c (deed.Midpoint m a b) hs hf hc = B.midpoint _ _ _ (place f m hf) (place f a hf) (place f b hf)
+  effect-fits f c (deed.Med l a b) hs hf hc = fits-bisector _ _ (place f a hf) (place f b hf)
+  effect-fits f c (deed.Perp p a l) hs hf hc = fits-across _ _ (line-fits _ l hc.lines).direction (place f a hf)
+  effect-fits f c (deed.Parallel p a l) hs hf hc = fits-along _ _ (line-fits _ l hc.lines).direction (place f a hf)
+  effect-fits f c (deed.Foot p a l) hs hf hc =
       let on = line-fits _ l hc.lines in
       (on.incidence _ (place f p hf), (B.across _ _ on.direction (B.between _ _ (place f a hf) (place f p hf)), tt))
-  effect-fits f c (deed.Online x a b) hf hc =
+  effect-fits f c (deed.Online x a b) hs hf hc =
       (B.along _ _ (B.between _ _ (place f a hf) (place f b hf)) (B.between _ _ (place f a hf) (place f x hf)), tt)
-  effect-fits f c (deed.Oncircle x a b) hf hc = (on_circle-fine _ _ (place f x hf) (place f a hf, place f b hf), tt)
-  effect-fits f c (deed.Translate x a b e) hf hc = B.translation _ _ _ _ (place f x hf) (place f a hf) (place f b hf) (place f e hf)
-  effect-fits f c (deed.Towards x a b t) hf hc =
-      B.division (numerator t) (pos (denominator t)) _ _ _ (place f x hf) (place f a hf) (place f b hf)
-  effect-fits f c d hf hc = search rules
+  effect-fits f c (deed.Oncircle x a b) hs hf hc = (on_circle-fine _ _ (place f x hf) (place f a hf, place f b hf), tt)
+  effect-fits f c (deed.Translate x a b e) hs hf hc = B.translation _ _ _ _ (place f x hf) (place f a hf) (place f b hf) (place f e hf)
+  effect-fits f c (deed.Towards x a b t) hs hf hc =
+      B.division t _ _ _ hs (place f x hf) (place f a hf) (place f b hf)
+  effect-fits f c d hs hf hc = search rules
 
   conditions-fine : (e : Effect Polynomial) → EffectFits e → Each Fine (conditions e)
   conditions-fine Nothing h = tt
@@ -179,14 +198,14 @@ module _ {Place Way : Vector Polynomial → Type 0} {Fine : Polynomial → Type 
   curves-fit (NewCircle k) c h hc = record { lines = hc.lines; circles = circles-push c.circles k hc.circles h }
   curves-fit (Conditions ps) c h hc = hc
 
-  pub acts-fine : (f : Figure Polynomial) (c : Curves Polynomial) (acts : List Act) → FigureFits f → CurvesFit c
+  pub acts-fine : (f : Figure Polynomial) (c : Curves Polynomial) (acts : List Act) → AllSized Sized acts → FigureFits f → CurvesFit c
       → Each Fine (conditions_from polynomials f c acts)
   unfolding conditions_from
-  acts-fine f c [] hf hc = tt
-  acts-fine f c (a ∷ acts) hf hc =
+  acts-fine f c [] hs hf hc = tt
+  acts-fine f c (a ∷ acts) hs hf hc =
       let e = effect polynomials f c a.deed in
-      let h = effect-fits f c a.deed hf hc in
-      each-append Fine (conditions e) _ (conditions-fine e h) (acts-fine f (with_effect e c) acts hf (curves-fit e c h hc))
+      let h = effect-fits f c a.deed hs.0 hf hc in
+      each-append Fine (conditions e) _ (conditions-fine e h) (acts-fine f (with_effect e c) acts hs.1 hf (curves-fit e c h hc))
 
   -- statements
   abbrev pub IsConclusion : List Polynomial → Type 0

@@ -21,6 +21,7 @@ use Rattle.proof_steps.specs.declared.problem.Problem.{Problem}
 use Rattle.algebraize.specs.Equations.{Equations, equations_of}
 use Rattle.algebraize.specs.Formed.{equations}
 use Rattle.algebraize.specs.Problem.{is_prove, problem_of, problems_from, problems_of, proves_in}
+use Rattle.algebraize.proofs.Limits.{AllNear, sound-near, front-near, problem-within}
 use Rattle.algebraize.proofs.Proves.{variables_of_layout}
 use Rattle.algebraize.proofs.Stated.{stated_problem}
 use Rattle.proof_log.specs.Accepted.{IsAccepted}
@@ -35,8 +36,6 @@ use Rattle.command_line.specs.Checking.{stated_in}
 use Rattle.command_line.specs.Proving.{proofs_of}
 use Rattle.command_line.specs.VerdictLines.{problems_in}
 use Rattle.command_line.proofs.Figures.{problem-behind, equations-given}
-use Rattle.command_line.proofs.Limits.{AllSized, sound-sized, front-sized}
-use Rattle.command_line.proofs.Limits.{problem-within}
 
 -- ---- the prove of a number
 record ProveAt (acts : List Act) (k : ℕ) : Type 0 where
@@ -85,13 +84,13 @@ prove-at [] k lt = absurd (omega (arith, lt))
 prove-at (a ∷ acts) k lt = by-first a acts (prove-at acts) (is_prove a.deed) refl k lt
 
 -- ---- its problem
-problem-posed : (acts : List Act) (k : ℕ) (e : Equations) → AllSized acts → k < proves_in acts → problem_of acts k ≡ Ok e → IsPosed (logs.problem_of e)
+problem-posed : (acts : List Act) (k : ℕ) (e : Equations) → AllNear acts → k < proves_in acts → problem_of acts k ≡ Ok e → IsPosed (logs.problem_of e)
 problem-posed acts k e sized lt h =
     let at = prove-at acts k lt in
     let found = ap (problem_of (at.before ++ at.prove ∷ at.after)) at.place ∙ ap (λ l. problem_of l k) (sym at.parts) ∙ h in
     let given = equations-given at.before at.prove at.statement at.points e
     (sym (problem-behind at.before at.after at.prove at.statement at.points at.asks) ∙ found) in
-    let front = front-sized at.before (at.prove ∷ at.after) (subst AllSized at.parts sized) in
+    let front = front-near at.before (at.prove ∷ at.after) (subst AllNear at.parts sized) in
     let is : equations (logs.problem_of e) ≡ equations_of at.before at.statement at.points = given.1 in
     record {
       vars = ap (λ (x : Equations). are_variables x.variables) given.1 ∙ variables_of_layout at.before given.0;
@@ -99,7 +98,7 @@ problem-posed acts k e sized lt h =
           (problem-within at.before at.statement at.points (logs.problem_of e) front is);
     }
 
-problems-posed : (acts : List Act) → AllSized acts → (n k : ℕ) (es : List Equations) → k + n ≤ proves_in acts → problems_from acts k n ≡ Ok es
+problems-posed : (acts : List Act) → AllNear acts → (n k : ℕ) (es : List Equations) → k + n ≤ proves_in acts → problems_from acts k n ≡ Ok es
     → AllByRecursion IsPosed (map logs.problem_of es)
 unfolding problems_from
 problems-posed acts sized zero k es le h = subst (λ l. AllByRecursion IsPosed (map logs.problem_of l)) (ok-is h) tt
@@ -129,7 +128,7 @@ program-sure program proofs sound h =
     let es = bind-ok (problems_of program.acts) _ proofs h in
     let problems = map logs.problem_of es.0 in
     let posed = All-from_recursion IsPosed problems
-    (problems-posed program.acts (sound-sized nothing program.acts sound.follow) (proves_in program.acts) 0 es.0 (omega arith) es.1) in
+    (problems-posed program.acts (sound-near nothing program.acts sound.follow) (proves_in program.acts) 0 es.0 (omega arith) es.1) in
     let few = few-problems program sound problems (es.1 ∙ ap Ok (again es.0)) in
     subst IsSure (ok-is es.2) record {
       accepted = logs-accepted VERSION problems few (λ k d lt. (posed k d lt).stated);

@@ -9,7 +9,6 @@ pub mod Runs
 pub mod Single
 pub mod VerdictLines
 pub mod Words
-mod Limits
 mod FileLogs
 mod Assured
 mod Figures

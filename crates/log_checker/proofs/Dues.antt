@@ -5,8 +5,8 @@ use Rattle.std.proofs.lemmas.Bool.Decides.{nat_tests}
 use Rattle.poly_model.specs.Polynomial.{Polynomial}
 use Rattle.poly_model.specs.Reduction.{class_of}
 use Rattle.proof_steps.specs.Numbers.{item, first_from}
-use Rattle.log_checker.specs.Classes.{HaveOwnClasses}
-use Rattle.log_checker.proofs.Reducing.{Reducer, reducer}
+use Rattle.proof_steps.specs.Classes.{HaveOwnClasses}
+use Rattle.proof_steps.proofs.Reducing.{Reducer, reducer}
 use Rattle.log_checker.specs.Turns.{IsDue, IsFirstLeft, conclusion}
 use Rattle.log_checker.specs.declared.due.Due.TheVariants as due
 use Rattle.proof_steps.specs.Chain.{Left, Reduce, AllZero, due_of, reducing_class, first_of_class}

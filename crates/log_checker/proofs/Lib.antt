@@ -1,4 +1,3 @@
-pub mod Reducing
 mod Stores
 mod Terms
 mod Nodes

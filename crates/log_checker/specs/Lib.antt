@@ -1,4 +1,3 @@
-pub mod Classes
 pub mod Fitting
 pub mod Accepted
 pub mod Answers

@@ -4,7 +4,7 @@ ghost use Rattle.poly_model.specs.Polynomial.{Polynomial};
 ghost use Rattle.poly_model.specs.Reduction.{class_of, reaches};
 ghost use Rattle.poly_model.specs.declared.limits.TheConstants.{MOST_VARIABLES};
 ghost use Rattle.proof_steps.specs.Chain.{AllZero, due_of, reducing_class, first_of_class};
-ghost use Rattle.log_checker.specs.Classes.{HaveOwnClasses};
+ghost use Rattle.proof_steps.specs.Classes.{HaveOwnClasses};
 ghost use Rattle.log_checker.specs.Turns.{IsDue, IsFirstLeft};
 
 use crate::node::reaches;

@@ -2,4 +2,5 @@ pub mod Stated
 pub mod Word
 pub mod Paths
 pub mod Search
+pub mod Reducing
 pub mod Following

@@ -4,6 +4,7 @@ pub mod Numbers
 pub mod Reasons
 pub mod Rules
 pub mod Chain
+pub mod Classes
 pub mod Work
 pub mod Trees
 pub mod Stated

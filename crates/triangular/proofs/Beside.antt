@@ -25,9 +25,11 @@ use Rattle.workbench.specs.declared.bench.Held.{Held}
 use Rattle.workbench.proofs.Owning as owning
 use Rattle.workbench.proofs.Benches as benches
 use Rattle.workbench.proofs.Choice as choice
-use Rattle.triangular.specs.Reducers.{reducing_in, first_in, HaveOwnClasses}
+use Rattle.proof_steps.specs.Classes.{HaveOwnClasses}
+use Rattle.triangular.specs.Reducers.{reducing_in, first_in}
 use Rattle.triangular.proofs.Reducing as reducing
-use Rattle.triangular.proofs.Reducing.{Reducer}
+use Rattle.proof_steps.proofs.Reducing as equations
+use Rattle.proof_steps.proofs.Reducing.{Reducer}
 use Rattle.triangular.proofs.Chained.{met-is}
 
 found-live : (s : State) (hs : List Held) → AreFound s hs → AllLive s (map held_slot hs)
@@ -54,7 +56,7 @@ placed s hs R x f t own xi some fi =
     let up : x ≡ suc (x - 1) = omega (arith, some) in
     let class : reducing_class E R ≡ suc (x - 1) = sym (reducing.reducing-tied [] R hs E t) ∙ sym xi ∙ up in
     let first : f ≡ first_of_class E (suc (x - 1)) = fi ∙ sym (reducing.first-tied (held_at s) [] hs x t) ∙ ap (first_of_class E) up in
-    let r = subst (Reducer E R (x - 1)) (sym first) (reducing.reducer E R (x - 1) own class) in
+    let r = subst (Reducer E R (x - 1)) (sym first) (equations.reducer E R (x - 1) own class) in
     let l : length (map (held_at s) hs) ≡ length hs = length-map hs (held_at s) in
     record {
       low = (let z = r.low in omega (arith, z));

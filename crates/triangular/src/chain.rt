@@ -7,7 +7,7 @@ ghost use Rattle.term_store.specs.Changes.{Keeps, given_up};
 ghost use Rattle.polynomials.specs.Held.{IsPoly, polynomial_at, slot_of};
 ghost use Rattle.workbench.specs.Standing.{AllTell, AreFound, AreHeld, held_at};
 ghost use Rattle.triangular.specs.Chains.{Comes};
-ghost use Rattle.triangular.specs.Reducers.{HaveOwnClasses};
+ghost use Rattle.proof_steps.specs.Classes.{HaveOwnClasses};
 
 use crate::reducer::{equation, first_of_class, reducing_class};
 use poly_model::OwnedPoly;

@@ -22,8 +22,8 @@ use Rattle.tree_laws.specs.Due.{IsRight}
 use Rattle.term_store.specs.States.{State}
 use Rattle.workbench.specs.Standing.{AreFound, AreHeld, poly_of}
 use Rattle.workbench.specs.declared.bench.Held.{Held}
-use Rattle.triangular.specs.Reducers.{HaveOwnClasses}
-use Rattle.triangular.proofs.Reducing.{own-classes}
+use Rattle.proof_steps.specs.Classes.{HaveOwnClasses}
+use Rattle.proof_steps.proofs.Reducing.{own-classes}
 use Rattle.tree_laws.proofs.Unfold.{prefixed, more, expansion-is}
 use Rattle.wang_split.specs.Expanded.{Rests, nodes_of}
 

@@ -1,6 +1,6 @@
 use Rattle.std.proofs.Common.{sym, subst}
-use Rattle.log_checker.specs.Classes.{HaveOwnClasses}
-use Rattle.log_checker.proofs.Reducing.{own-classes}
+use Rattle.proof_steps.specs.Classes.{HaveOwnClasses}
+use Rattle.proof_steps.proofs.Reducing.{own-classes}
 use Rattle.log_checker.proofs.chain.system_due.Goals as goal
 
 pub next_due-requires : goal.next_due-requires

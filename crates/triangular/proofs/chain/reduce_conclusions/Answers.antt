@@ -9,7 +9,7 @@ use Rattle.polynomials.proofs.Results as results
 use Rattle.workbench.specs.Standing.{AllTell, held_at, poly_of}
 use Rattle.workbench.proofs.Owning as owning
 use Rattle.triangular.specs.Chains.{Chains, Comes, Ends}
-use Rattle.triangular.specs.Reducers.{HaveOwnClasses}
+use Rattle.proof_steps.specs.Classes.{HaveOwnClasses}
 use Rattle.triangular.proofs.Chained as chained
 use Rattle.triangular.proofs.Beside as beside
 use Rattle.triangular.proofs.chain.reduce_conclusions.Goals as goal

@@ -9,7 +9,7 @@ use Rattle.workbench.specs.Standing.{AreHeld, beneath, node_at, poly_of}
 use Rattle.workbench.proofs.Owning as owning
 use Rattle.workbench.proofs.Benches as benches
 use Rattle.workbench.proofs.Choice as choice
-use Rattle.triangular.specs.Reducers.{HaveOwnClasses}
+use Rattle.proof_steps.specs.Classes.{HaveOwnClasses}
 use Rattle.triangular.proofs.Beside as beside
 use Rattle.wang_split.proofs.Concluded as concluded
 use Rattle.wang_split.proofs.concluding.solved.Goals as goal

@@ -5,8 +5,8 @@ use Rattle.std.proofs.lemmas.Bool.{eqb-true, eq-eqb, and_parts}
 use Rattle.std.proofs.lemmas.List.Sums.{sum_by-cons}
 use Rattle.poly_model.specs.Polynomial.{Polynomial}
 use Rattle.poly_model.specs.Reduction.{class_of, is_constant, reaches}
-use Rattle.log_checker.specs.Classes.{HaveOwnClasses}
 use Rattle.proof_steps.specs.Numbers.{item}
+use Rattle.proof_steps.specs.Classes.{HaveOwnClasses}
 use Rattle.proof_steps.specs.Chain.{reducing_class, first_of_class}
 use Rattle.proof_steps.specs.Rules.{is_settled, is_triangular}
 use Rattle.proof_steps.proofs.Search as search
