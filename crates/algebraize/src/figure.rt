@@ -249,12 +249,12 @@ impl Figure {
     pub fn conclusions(
         &self,
         alloc: Global,
-        statement: Statement,
+        statement: &Statement,
         points: &[u32],
     ) -> Result<Vec<OwnedPoly>, AllocError>
         requires { HasDefaults self.now }
         ensures { IfOk result (λ ps. ps.items
-            ≡ map primitive_part (conclusion polynomials self.now.places.items statement
+            ≡ map primitive_part (conclusion polynomials self.now.places.items statement.now
             points.now)) }
     {
         match statement {

@@ -52,10 +52,11 @@ fn problem_at(
     alloc: Global,
     before: &[Act],
     prove: &Act,
-    statement: Statement,
+    statement: &Statement,
     points: &[u32],
 ) -> Result<Problem, GclFault>
-    ensures value { Gives equations result (problem_at before.now prove.now statement points.now) }
+    ensures value { Gives equations result (problem_at before.now prove.now statement.now
+        points.now) }
     ensures within { IfOk result IsWithinLimits }
 {
     let layout = lay_out(alloc, before, prove)?;
@@ -117,7 +118,7 @@ pub fn system_of<D: Domain>(
             alloc,
             &acts[..place],
             act,
-            *statement,
+            statement,
             points.as_slice(),
         ),
         _ => unreachable!(),
