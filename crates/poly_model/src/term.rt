@@ -15,7 +15,7 @@ pub struct Term {
 }
 
 /// The eight exponents from a place on as one number, in which the last weighs most.
-fn eight_from(exps: &[u8; MOST_VARIABLES], i: usize) -> u64
+pub fn eight_exponents(exps: &[u8; MOST_VARIABLES], i: usize) -> u64
     requires { i + 8 ≤ MOST_VARIABLES }
     ensures { result ≡ number_l 256 (take 8 (drop i exps.now)) }
 {
@@ -39,7 +39,7 @@ pub fn compare_monomials(a: &[u8; MOST_VARIABLES], b: &[u8; MOST_VARIABLES]) -> 
     let mut i = MOST_VARIABLES;
     while i > 0 {
         i -= 8;
-        let (x, y) = (eight_from(a, i), eight_from(b, i));
+        let (x, y) = (eight_exponents(a, i), eight_exponents(b, i));
         if x != y {
             return x.cmp(&y);
         }
@@ -47,10 +47,15 @@ pub fn compare_monomials(a: &[u8; MOST_VARIABLES], b: &[u8; MOST_VARIABLES]) -> 
     Ordering::Equal
 }
 
-fn are_low(exps: &[u8; MOST_VARIABLES]) -> bool
+/// No exponent passes the highest degree.
+pub fn are_low(exps: &[u8; MOST_VARIABLES]) -> bool
     ensures { result ≡ are_low exps.now }
 {
-    exps.iter().all(|e| *e <= MOST_DEGREE)
+    let mut highest = 0;
+    for e in exps {
+        highest = highest.max(*e);
+    }
+    highest <= MOST_DEGREE
 }
 
 impl Term {

@@ -11,8 +11,8 @@ loop-i-init c = record { within = omega arith; whole = omega arith; same = at_en
 pub returns-then-x-y : goal.returns-then-x-y
 returns-then-x-y c =
     decided c.loop-i.i (c.loop-i.i - 8) 8 c.args.a.now c.args.b.now c.cmp.result (c.told-a ∙ sym c.told-b) c.fits-a c.fits-b (omega arith) c.loop-i.invariant.same
-    (c.cmp.ensures ∙ (λ k. nat_cmp (c.eight_from-x.ensures k) (c.eight_from-y.ensures k)))
-    (λ e. c.if-x-y.true (c.eight_from-x.ensures ∙ e ∙ sym c.eight_from-y.ensures))
+    (c.cmp.ensures ∙ (λ k. nat_cmp (c.eight_exponents-x.ensures k) (c.eight_exponents-y.ensures k)))
+    (λ e. c.if-x-y.true (c.eight_exponents-x.ensures ∙ e ∙ sym c.eight_exponents-y.ensures))
 
 pub loop-i-preserved : goal.loop-i-preserved
 loop-i-preserved c =
@@ -20,5 +20,5 @@ loop-i-preserved c =
       within = omega arith;
       whole = omega arith;
       same = from_numbers c.loop-i.i (c.loop-i.i - 8) 8 c.args.a.now c.args.b.now (c.told-a ∙ sym c.told-b) c.fits-a c.fits-b (omega arith) c.loop-i.invariant.same
-          ∙ sym (nat_cmp_is _ _ Equal (sym c.eight_from-x.ensures ∙ c.if-x-y.false ∙ c.eight_from-y.ensures));
+          ∙ sym (nat_cmp_is _ _ Equal (sym c.eight_exponents-x.ensures ∙ c.if-x-y.false ∙ c.eight_exponents-y.ensures));
     }
