@@ -1,4 +1,6 @@
-ghost use Rattle.std.specs.Prelude.{◌≡◌};
+ghost use Rattle.std.specs.Prelude.{◌≡◌, ◌+◌, ◌≤◌, take, drop};
+ghost use Rattle.std.specs.Simd.Lanes.{number_l};
+ghost use Rattle.poly_model.specs.declared.limits.TheConstants.{MOST_VARIABLES};
 ghost use Rattle.poly_model.specs.Polynomial.{monomial_cmp};
 ghost use Rattle.poly_model.specs.Standard.{entry_of, polynomial_of, are_low, is_within, is_above, are_descending, is_standard};
 
@@ -12,28 +14,48 @@ pub struct Term {
     pub exps: [u8; MOST_VARIABLES],
 }
 
-/// Compares two monomials by the exponents of the greatest variable, the last, then by those of the next.
+/// The eight exponents from a place on as one number, in which the last weighs most.
+pub fn eight_exponents(exps: &[u8; MOST_VARIABLES], i: usize) -> u64
+    requires { i + 8 ≤ MOST_VARIABLES }
+    ensures { result ≡ number_l 256 (take 8 (drop i exps.now)) }
+{
+    u64::from_le_bytes([
+        exps[i],
+        exps[i + 1],
+        exps[i + 2],
+        exps[i + 3],
+        exps[i + 4],
+        exps[i + 5],
+        exps[i + 6],
+        exps[i + 7],
+    ])
+}
+
+/// Compares two monomials by the exponents of the greatest variable, the last, then by those of the next. Eight are compared
+/// at a time.
 pub fn compare_monomials(a: &[u8; MOST_VARIABLES], b: &[u8; MOST_VARIABLES]) -> Ordering
     ensures { result ≡ monomial_cmp a.now b.now }
 {
     let mut i = MOST_VARIABLES;
     while i > 0 {
-        i -= 1;
-        let (x, y) = (a[i], b[i]);
-        if x < y {
-            return Ordering::Less;
-        }
-        if y < x {
-            return Ordering::Greater;
+        i -= 8;
+        let (x, y) = (eight_exponents(a, i), eight_exponents(b, i));
+        if x != y {
+            return x.cmp(&y);
         }
     }
     Ordering::Equal
 }
 
-fn are_low(exps: &[u8; MOST_VARIABLES]) -> bool
+/// No exponent passes the highest degree.
+pub fn are_low(exps: &[u8; MOST_VARIABLES]) -> bool
     ensures { result ≡ are_low exps.now }
 {
-    exps.iter().all(|e| *e <= MOST_DEGREE)
+    let mut highest = 0;
+    for e in exps {
+        highest = highest.max(*e);
+    }
+    highest <= MOST_DEGREE
 }
 
 impl Term {

@@ -1,5 +1,5 @@
 -- Exponents that are raised place by place, and degrees.
-use Rattle.std.proofs.Common.{◌≡◌, ◌<◌, ◌≤◌, ℕ, zero, suc, List, [], ◌∷◌, length, get_or, set, max, replicate, refl, sym, ◌∙◌, ap, arith, true, nat_le}
+use Rattle.std.proofs.Common.{◌≡◌, ◌<◌, ℕ, zero, suc, List, [], ◌∷◌, length, get_or, set, max, replicate, refl, sym, ◌∙◌, ap, arith, true, nat_le}
 use Rattle.std.proofs.lemmas.Bool.Decides.{nat_tests}
 use Rattle.std.specs.Prelude.{ℤ}
 use Rattle.poly_model.specs.Polynomial.{Polynomial, IsDescending}
@@ -16,24 +16,12 @@ raised_first (suc i) [] ys = []
 raised_first (suc i) (x ∷ xs) [] = x ∷ xs
 raised_first (suc i) (x ∷ xs) (y ∷ ys) = max x y ∷ raised_first i xs ys
 
-pub raised_first-at : (i : ℕ) (xs ys : List ℕ) → length xs ≡ length ys → get_or (raised_first i xs ys) i 0 ≡ get_or xs i 0
-raised_first-at zero xs ys same = refl
-raised_first-at (suc i) [] ys same = refl
-raised_first-at (suc i) (x ∷ xs) [] same = absurd (omega arith)
-raised_first-at (suc i) (x ∷ xs) (y ∷ ys) same = raised_first-at i xs ys (omega arith)
-
-pub raised_first-set : (i : ℕ) (xs ys : List ℕ) → i < length xs → length xs ≡ length ys → get_or xs i 0 ≤ get_or ys i 0
-    → set (raised_first i xs ys) i (get_or ys i 0) ≡ raised_first (suc i) xs ys
-raised_first-set i [] ys below same le = absurd (omega arith)
-raised_first-set i (x ∷ xs) [] below same le = absurd (omega arith)
-raised_first-set zero (x ∷ xs) (y ∷ ys) below same le = ap (λ z. z ∷ xs) (let e : y ≡ max x y = omega arith in e)
-raised_first-set (suc i) (x ∷ xs) (y ∷ ys) below same le = ap (λ l. max x y ∷ l) (raised_first-set i xs ys (omega arith) (omega arith) le)
-
-pub raised_first-keep : (i : ℕ) (xs ys : List ℕ) → i < length xs → length xs ≡ length ys → get_or ys i 0 ≤ get_or xs i 0 → raised_first i xs ys ≡ raised_first (suc i) xs ys
-raised_first-keep i [] ys below same le = absurd (omega arith)
-raised_first-keep i (x ∷ xs) [] below same le = absurd (omega arith)
-raised_first-keep zero (x ∷ xs) (y ∷ ys) below same le = ap (λ z. z ∷ xs) (let e : x ≡ max x y = omega arith in e)
-raised_first-keep (suc i) (x ∷ xs) (y ∷ ys) below same le = ap (λ l. max x y ∷ l) (raised_first-keep i xs ys (omega arith) (omega arith) le)
+pub raised_first-more : (i : ℕ) (xs ys : List ℕ) → i < length xs → length xs ≡ length ys
+    → set (raised_first i xs ys) i (max (get_or (raised_first i xs ys) i 0) (get_or ys i 0)) ≡ raised_first (suc i) xs ys
+raised_first-more i [] ys below same = absurd (omega arith)
+raised_first-more i (x ∷ xs) [] below same = absurd (omega arith)
+raised_first-more zero (x ∷ xs) (y ∷ ys) below same = refl
+raised_first-more (suc i) (x ∷ xs) (y ∷ ys) below same = ap (λ l. max x y ∷ l) (raised_first-more i xs ys (omega arith) (omega arith))
 
 pub raised_first-all : (i : ℕ) (xs ys : List ℕ) → length xs ≡ i → length ys ≡ i → raised_first i xs ys ≡ exponents_max xs ys
 raised_first-all zero [] [] p q = refl

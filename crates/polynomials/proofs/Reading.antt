@@ -1,17 +1,17 @@
 -- What is read off a list of terms: its class, its degrees, its divisor, and whether it is another's.
-use Rattle.std.proofs.Common.{◌≡◌, ◌≢◌, ℕ, ◌+◌, ◌%◌, subst, ◌<◌, ◌≤◌, max, zero, suc, refl, List, [], ◌∷◌, length, drop, get_or, sym, ◌∙◌, ap, arith, Bool, true, false, not, ◌&&◌}
+use Rattle.std.proofs.Common.{◌≡◌, ◌≢◌, ℕ, ◌+◌, ◌%◌, subst, ◌<◌, ◌≤◌, max, zero, suc, refl, List, [], ◌∷◌, length, take, drop, get_or, sym, ◌∙◌, ap, arith, Bool, true, false, not, ◌&&◌}
 use Rattle.std.specs.Prelude.{ℤ, pos, negsuc, ◌==◌, if◌then◌else◌, unsigned_abs}
 use Rattle.std.specs.Int.{IsGcd}
-use Rattle.std.specs.Cmp.Derive.{both_true}
+use Rattle.std.specs.Simd.Lanes.{number_l}
+use Rattle.std.proofs.lemmas.List.{drop-drop}
 use Rattle.std.proofs.lemmas.Bool.{and_parts, eqb-true, leb-true}
 use Rattle.std.proofs.lemmas.Nat.Gcd.{same_from_IsGcd, dvd_refl, dvd_of_mod-eq-zero, le_of_dvd}
 use Prim.Native.Nat.{◌∣◌}
-use Rattle.std.proofs.lemmas.Bool.Decides.{Decides-int_eq}
-use Rattle.poly_model.specs.Polynomial.{Polynomial, IsDescending, monomial_cmp}
-use Rattle.poly_model.specs.Content.{gcd, coefficients_gcd, is_negative, begins_negative, signed_by}
+use Rattle.poly_model.specs.Polynomial.{Polynomial, IsDescending}
+use Rattle.poly_model.specs.Content.{coefficients_gcd, is_negative, begins_negative, signed_by}
 use Rattle.poly_model.specs.Standard.{entry_of, polynomial_of, is_bounded, are_bounded}
 use Rattle.poly_model.specs.Reduction.{same_entry, same, degree_at, monomial_class, class_of, multiplier_of}
-use Rattle.poly_model.specs.Equality.{same-is, same-self, is-same}
+use Rattle.poly_model.specs.Equality.{same-is, same-self}
 use Rattle.poly_model.specs.declared.term.Term.{Term}
 use Rattle.poly_model.proofs.Contents.{gcd-is}
 use Rattle.poly_model.proofs.Front.{class_by, class-is, class-first}
@@ -36,6 +36,19 @@ class-unused i [] below none rest = absurd (omega (arith, below))
 class-unused zero (x ∷ xs) below none rest = class-is x xs ∙ (λ j. class_by (none j) (rest j))
 class-unused (suc i) (x ∷ xs) below none rest =
     class-unused i xs (omega (arith, below)) none (ap (λ k. monomial_class (drop k (x ∷ xs))) (let e : suc (i + 1) ≡ suc i + 1 = omega arith in e) ∙ rest)
+
+-- places whose number is 0 are unused
+zeros-unused : (n : ℕ) (xs : List ℕ) → number_l 256 (take n xs) ≡ 0 → monomial_class (drop n xs) ≡ 0 → monomial_class xs ≡ 0
+zeros-unused zero xs none rest = rest
+zeros-unused (suc n) [] none rest = refl
+zeros-unused (suc n) (x ∷ xs) none rest =
+    let first : x ≡ 0 = omega (arith, none) in
+    let others : number_l 256 (take n xs) ≡ 0 = omega (arith, none) in
+    class-is x xs ∙ (λ j. class_by (first j) (zeros-unused n xs others rest j))
+
+pub class-unused_run : (i j n : ℕ) (xs : List ℕ) → j + n ≡ i → number_l 256 (take n (drop j xs)) ≡ 0 → monomial_class (drop i xs) ≡ 0 → monomial_class (drop j xs) ≡ 0
+class-unused_run i j n xs step none rest =
+    zeros-unused n (drop j xs) none (rw (drop-drop n j xs) (subst (λ k. monomial_class (drop k xs) ≡ 0) (sym step) rest))
 
 pub class-found : (i : ℕ) (xs : List ℕ) → i < length xs → get_or xs i 0 ≢ 0 → monomial_class (drop (i + 1) xs) ≡ 0 → suc i ≡ monomial_class xs
 class-found i [] below some rest = absurd (omega (arith, below))

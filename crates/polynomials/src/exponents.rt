@@ -4,7 +4,7 @@ ghost use Rattle.poly_model.specs.Polynomial.{exponents_sum};
 ghost use Rattle.poly_model.specs.Standard.{are_low};
 ghost use Rattle.poly_model.specs.Bounded.{exponents_max};
 
-use poly_model::{MOST_DEGREE, MOST_VARIABLES};
+use poly_model::MOST_VARIABLES;
 
 /// The exponents of a product of two monomials.
 pub fn exponents_sum(a: &[u8; MOST_VARIABLES], b: &[u8; MOST_VARIABLES]) -> [u8; MOST_VARIABLES]
@@ -25,15 +25,6 @@ pub fn raise(highest: &mut [u8; MOST_VARIABLES], exps: &[u8; MOST_VARIABLES])
     ensures whole { length highest.new ≡ MOST_VARIABLES }
 {
     for i in 0..MOST_VARIABLES {
-        if highest[i] < exps[i] {
-            highest[i] = exps[i];
-        }
+        highest[i] = highest[i].max(exps[i]);
     }
-}
-
-/// No exponent passes the highest degree.
-pub fn are_low(exps: &[u8; MOST_VARIABLES]) -> bool
-    ensures { result ≡ are_low exps.now }
-{
-    exps.iter().all(|e| *e <= MOST_DEGREE)
 }

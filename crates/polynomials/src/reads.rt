@@ -1,11 +1,11 @@
 // What is read off a polynomial.
-ghost use Rattle.std.specs.Prelude.{◌≡◌, ◌<◌};
+ghost use Rattle.std.specs.Prelude.{◌≡◌, ◌<◌, ◌≤◌, drop};
 ghost use Rattle.poly_model.specs.Reduction.{same, monomial_class, class_of, degree_at};
 ghost use Rattle.poly_model.specs.declared.limits.TheConstants.{MOST_VARIABLES};
 ghost use Rattle.polynomials.specs.Held.{IsPoly, polynomial_at, class_number};
 
 use crate::poly::Poly;
-use poly_model::MOST_VARIABLES;
+use poly_model::{MOST_VARIABLES, eight_exponents};
 use term_store::TermStore;
 
 /// The two are the same polynomial.
@@ -26,11 +26,23 @@ pub fn same<S: TermStore>(s: &S, a: Poly, b: Poly) -> bool
     true
 }
 
+/// The end of the eight places that have the greatest variable of a monomial; 0 where it has none.
+fn end_of_used(exps: &[u8; MOST_VARIABLES]) -> usize
+    ensures within { result ≤ MOST_VARIABLES }
+    ensures unused { monomial_class (drop result exps.now) ≡ 0 }
+{
+    let mut end = MOST_VARIABLES;
+    while end > 0 && eight_exponents(exps, end - 8) == 0 {
+        end -= 8;
+    }
+    end
+}
+
 /// The place of the greatest variable of a monomial; None where it has none.
 pub fn greatest(exps: &[u8; MOST_VARIABLES]) -> Option<u8>
     ensures { class_number result ≡ monomial_class exps.now }
 {
-    let mut i = MOST_VARIABLES;
+    let mut i = end_of_used(exps);
     while i > 0 {
         i -= 1;
         if exps[i] != 0 {

@@ -1,19 +1,24 @@
-use Rattle.std.proofs.Common.{◌-◌, arith, sym, ◌∙◌}
+use Rattle.std.proofs.Common.{◌-◌, arith, sym, ◌∙◌, Equal}
+use Rattle.std.specs.Ordering.{nat_cmp}
 use Rattle.std.specs.Cmp.{nat_cmp_is}
-use Rattle.std.specs.declared.cmp.Ordering.TheVariants.{Less, Greater}
 use Rattle.poly_model.specs.declared.limits.TheConstants.{MOST_VARIABLES}
-use Rattle.poly_model.proofs.Places.{at_end, decided}
+use Rattle.poly_model.proofs.Places.{at_end, decided, from_numbers}
 use Rattle.poly_model.proofs.term.compare_monomials.Goals as goal
 
 pub loop-i-init : goal.loop-i-init
-loop-i-init c = record { within = omega arith; same = at_end MOST_VARIABLES _ _ c.told-a c.told-b }
+loop-i-init c = record { within = omega arith; whole = omega arith; same = at_end MOST_VARIABLES _ _ c.told-a c.told-b }
 
 pub returns-then-x-y : goal.returns-then-x-y
 returns-then-x-y c =
-    decided c.loop-i.i (c.loop-i.i - 1) c.args.a.now c.args.b.now Less (c.told-a ∙ sym c.told-b) (omega arith) (omega arith) c.loop-i.invariant.same
-    (nat_cmp_is _ _ Less c.if-x-y.true) (λ e. cc)
+    decided c.loop-i.i (c.loop-i.i - 8) 8 c.args.a.now c.args.b.now c.cmp.result (c.told-a ∙ sym c.told-b) c.fits-a c.fits-b (omega arith) c.loop-i.invariant.same
+    (c.cmp.ensures ∙ (λ k. nat_cmp (c.eight_exponents-x.ensures k) (c.eight_exponents-y.ensures k)))
+    (λ e. c.if-x-y.true (c.eight_exponents-x.ensures ∙ e ∙ sym c.eight_exponents-y.ensures))
 
-pub returns-then-y-x : goal.returns-then-y-x
-returns-then-y-x c =
-    decided c.loop-i.i (c.loop-i.i - 1) c.args.a.now c.args.b.now Greater (c.told-a ∙ sym c.told-b) (omega arith) (omega arith) c.loop-i.invariant.same
-    (nat_cmp_is _ _ Greater c.if-y-x.true) (λ e. cc)
+pub loop-i-preserved : goal.loop-i-preserved
+loop-i-preserved c =
+    record {
+      within = omega arith;
+      whole = omega arith;
+      same = from_numbers c.loop-i.i (c.loop-i.i - 8) 8 c.args.a.now c.args.b.now (c.told-a ∙ sym c.told-b) c.fits-a c.fits-b (omega arith) c.loop-i.invariant.same
+          ∙ sym (nat_cmp_is _ _ Equal (sym c.eight_exponents-x.ensures ∙ c.if-x-y.false ∙ c.eight_exponents-y.ensures));
+    }

@@ -1,11 +1,10 @@
-use Rattle.std.proofs.Common.{◌≡◌, ◌≢◌, ◌+◌, ◌-◌, ◌<◌, drop, length, get_or, sym, ◌∙◌, ap, arith}
+use Rattle.std.proofs.Common.{◌≡◌, ◌+◌, ◌-◌, drop, ◌∙◌, ap, arith}
 use Rattle.poly_model.specs.Reduction.{monomial_class}
-use Rattle.poly_model.specs.declared.limits.TheConstants.{MOST_VARIABLES}
 use Rattle.polynomials.proofs.Reading as reading
 use Rattle.polynomials.proofs.reads.greatest.Goals as goal
 
 pub loop-i-init : goal.loop-i-init
-loop-i-init c = record { within = omega arith; none = reading.class-end MOST_VARIABLES c.args.exps.now (omega arith) }
+loop-i-init c = record { within = omega arith; none = c.end_of_used-i.ensures.unused }
 
 pub returns-then-exps-i-ne0 : goal.returns-then-exps-i-ne0
 returns-then-exps-i-ne0 c =
