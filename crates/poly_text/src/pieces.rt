@@ -1,7 +1,7 @@
 ghost use Rattle.std.specs.Prelude.{◌≡◌, ◌<◌, ◌≤◌, ◌^◌, ℕ, List, Option, Some, None, MatchOption, IfSome};
 ghost use Rattle.poly_text.specs.Text.{letter};
 ghost use Rattle.poly_text.specs.Bytes.{is_digit};
-ghost use Rattle.poly_text.specs.Reading.{number_from, begins_number, number_at, behind, name_at, exponent_at, joint_at, factor_at};
+ghost use Rattle.poly_text.specs.Reading.{number_from, begins_number, number_at, behind, exponent_at, joint_at, NoName, OnlyName};
 
 use poly_model::{MOST_DEGREE, VarName};
 
@@ -67,22 +67,35 @@ pub fn letter(name: VarName) -> u8
     }
 }
 
-/// The text behind the variable of this name, if it stands first.
-fn read_name(name: VarName, text: &[u8]) -> Option<&[u8]>
-    ensures { MatchOption result (name_at name text.now ≡ None) (λ rest. name_at name text.now
-        ≡ Some rest.now) }
+/// The name of the variable that stands first, and the text behind it.
+fn read_name(text: &[u8]) -> Option<(VarName, &[u8])>
+    ensures { MatchOption result (NoName (Some text.now)) (λ read. OnlyName read.0 read.1.now
+        (Some text.now)) }
 {
-    let digits = behind(letter(name), text)?;
-    let (n, rest) = read_number(255, digits)?;
-    if n == name.number() as u128 {
-        Some(rest)
-    } else {
-        None
+    let (letter, digits) = text.split_first()?;
+    if *letter != b'u' && *letter != b'x' {
+        return None;
     }
+    let (n, rest) = read_number(255, digits)?;
+    let name = if *letter == b'u' {
+        VarName::U(n as u8)
+    } else {
+        VarName::X(n as u8)
+    };
+    Some((name, rest))
+}
+
+/// The name of the variable that stands first behind its joint, and the text behind it.
+pub fn read_next_name(joined: bool, text: &[u8]) -> Option<(VarName, &[u8])>
+    ensures { MatchOption result (NoName (joint_at joined text.now))
+        (λ read. OnlyName read.0 read.1.now (joint_at joined text.now)) }
+{
+    let body = if joined { behind(b'*', text)? } else { text };
+    read_name(body)
 }
 
 /// The exponent that stands first, 1 where none is written, and the text behind it.
-fn read_exponent(text: &[u8]) -> Option<(u8, &[u8])>
+pub fn read_exponent(text: &[u8]) -> Option<(u8, &[u8])>
     ensures { MatchOption result (exponent_at text.now ≡ None) (λ read. exponent_at text.now
         ≡ Some (read.0, read.1.now)) }
 {
@@ -91,13 +104,4 @@ fn read_exponent(text: &[u8]) -> Option<(u8, &[u8])>
     };
     let (e, rest) = read_number(MOST_DEGREE as u128, digits)?;
     if e > 1 { Some((e as u8, rest)) } else { None }
-}
-
-/// The exponent of the variable of this name, if that stands first, and the text behind it.
-pub fn read_factor(name: VarName, joined: bool, text: &[u8]) -> Option<(u8, &[u8])>
-    ensures { MatchOption result (factor_at name joined text.now
-        ≡ None) (λ read. factor_at name joined text.now ≡ Some (read.0, read.1.now)) }
-{
-    let body = if joined { behind(b'*', text)? } else { text };
-    read_exponent(read_name(name, body)?)
 }
