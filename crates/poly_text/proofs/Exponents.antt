@@ -1,10 +1,10 @@
 -- The exponents that are read so far.
-use Rattle.std.proofs.Common.{◌≡◌, ℕ, ◌+◌, ◌-◌, ◌<◌, ◌≤◌, suc, List, [], ◌∷◌, ◌++◌, length, take, drop, get_or, set, replicate, Bool, true, sym, ◌∙◌, ap, arith, Some, None, append_assoc}
+use Rattle.std.proofs.Common.{◌≡◌, ◌≢◌, ℕ, ◌+◌, ◌-◌, ◌<◌, ◌≤◌, suc, List, [], ◌∷◌, ◌++◌, length, take, drop, get_or, set, replicate, Bool, true, sym, ◌∙◌, ap, arith, Some, None, append_assoc, length-drop}
 use Rattle.std.proofs.lemmas.List.{take_more, take-append-drop, drop_all, drop-set-lt, length-set}
 use Rattle.std.proofs.Math.Seq.{drop-cons, take-suc-set}
 use Rattle.poly_model.specs.declared.vars.VarName.{VarName}
 use Rattle.poly_model.specs.declared.limits.TheConstants.{MOST_VARIABLES}
-use Rattle.poly_text.specs.Reading.{factor_at, factors_at}
+use Rattle.poly_text.specs.Reading.{joint_at, exponent_at, exponent_behind, factor_at, factors_at, NoName, OnlyName}
 use Rattle.poly_text.proofs.Factors.{next}
 
 -- the factors up to i were read: what is left of the text gives the other exponents
@@ -72,15 +72,55 @@ module _ (spare : ℕ) (before joined : Bool) (names : List VarName) (text rest 
         reads = h.reads ∙ ap (λ (r : List ℕ × List ℕ). (take i exps ++ r.0, r.1)) read ∙ (λ j. (front j, F.1));
       }
 
+  -- another variable stands there
+  pub passed : (other : VarName) (behind : List ℕ) → i < length names → i < MOST_VARIABLES → get_or names i name ≡ name → name ≢ other
+      → OnlyName other behind (joint_at joined rest) → FactorsRead spare before joined names text rest exps i → FactorsRead spare before joined names text rest exps (i + 1)
+  passed other behind below within named differs only h = absent below within named (ap exponent_behind (only.1 name differs)) h
+
+  -- the variable stands there, and no exponent
+  pub without : (behind : List ℕ) → i < length names → i < MOST_VARIABLES → get_or names i name ≡ name → exponent_at behind ≡ None
+      → OnlyName name behind (joint_at joined rest) → FactorsRead spare before joined names text rest exps i → FactorsRead spare before joined names text rest exps (i + 1)
+  without behind below within named none only h = absent below within named (ap exponent_behind only.0 ∙ none) h
+
+  -- the variable stands there with an exponent
+  pub taken : (behind : List ℕ) (e : ℕ) (after : List ℕ) → i < length names → i < MOST_VARIABLES → get_or names i name ≡ name → exponent_at behind ≡ Some (e, after)
+      → OnlyName name behind (joint_at joined rest) → FactorsRead spare before joined names text rest exps i → FactorsRead spare before true names text after (set exps i e) (i + 1)
+  taken behind e after below within named some only h = present e after below within named (ap exponent_behind only.0 ∙ some) h
+
+-- no factor is read behind the places that were read
+nothing_more : (spare : ℕ) (before joined : Bool) (names : List VarName) (text rest exps : List ℕ) (i : ℕ)
+    → factors_at spare joined (drop i names) rest ≡ (replicate (MOST_VARIABLES - i) 0, rest)
+    → FactorsRead spare before joined names text rest exps i → (exps, rest) ≡ factors_at spare before names text
+nothing_more spare before joined names text rest exps i end h =
+    let back : take i exps ++ replicate (MOST_VARIABLES - i) 0 ≡ exps = ap (λ l. take i exps ++ l) (sym h.none) ∙ take-append-drop i exps in
+    sym (h.reads ∙ ap (λ (r : List ℕ × List ℕ). (take i exps ++ r.0, r.1)) end ∙ (λ j. (back j, rest)))
+
 -- all places were read
 pub all_read : (before joined : Bool) (names : List VarName) (text rest exps : List ℕ) (i : ℕ) → length names ≤ i → i ≤ length names
     → FactorsRead (MOST_VARIABLES - length names) before joined names text rest exps i
     → (exps, rest) ≡ factors_at (MOST_VARIABLES - length names) before names text
 all_read before joined names text rest exps i low high h =
     let spare = MOST_VARIABLES - length names in
-    let same : i ≡ length names = omega (arith, low, high) in
-    let end : factors_at spare joined (drop i names) rest ≡ (replicate spare 0, rest) = ap (λ l. factors_at spare joined l rest) (drop_all i names low) in
-    let back : take i exps ++ replicate spare 0 ≡ exps =
-    ap (λ l. take i exps ++ l) (ap (λ n. replicate (MOST_VARIABLES - n) 0) (sym same) ∙ sym h.none) ∙ take-append-drop i exps
-    in
-    sym (h.reads ∙ ap (λ (r : List ℕ × List ℕ). (take i exps ++ r.0, r.1)) end ∙ (λ j. (back j, rest)))
+    let same : length names ≡ i = omega (arith, low, high) in
+    nothing_more spare before joined names text rest exps i
+    (ap (λ l. factors_at spare joined l rest) (drop_all i names low) ∙ ap (λ n. (replicate (MOST_VARIABLES - n) 0, rest)) same) h
+
+-- where no variable stands, no factor is read
+unread : (spare : ℕ) (joined : Bool) (names : List VarName) (text : List ℕ) → NoName (joint_at joined text)
+    → factors_at spare joined names text ≡ (replicate (length names + spare) 0, text)
+unread spare joined [] text none = let count : spare ≡ length {A = VarName} [] + spare = omega arith in λ i. (replicate (count i) 0, text)
+unread spare joined (name ∷ names) text none =
+    let count : suc (length names + spare) ≡ length (name ∷ names) + spare = omega arith in
+    ap (next spare joined name names text) (ap exponent_behind (none name))
+    ∙ (λ i. (0 ∷ (unread spare joined names text none i).0, (unread spare joined names text none i).1))
+    ∙ (λ i. (replicate (count i) 0, text))
+
+-- no variable stands behind the places that were read
+pub none_left : (before joined : Bool) (names : List VarName) (text rest exps : List ℕ) (i : ℕ) → i ≤ length names → length names ≤ MOST_VARIABLES
+    → NoName (joint_at joined rest) → FactorsRead (MOST_VARIABLES - length names) before joined names text rest exps i
+    → (exps, rest) ≡ factors_at (MOST_VARIABLES - length names) before names text
+none_left before joined names text rest exps i below within none h =
+    let spare = MOST_VARIABLES - length names in
+    let count : length (drop i names) + spare ≡ MOST_VARIABLES - i = omega (arith, length-drop i names, below, within) in
+    nothing_more spare before joined names text rest exps i
+    (unread spare joined (drop i names) rest none ∙ ap (λ n. (replicate n 0, rest)) count) h

@@ -59,6 +59,19 @@ grows n (b ∷ text) =
       | false ↦ omega arith
     ]
 
+-- a number that has passed the most is refused
+pub too_large : (most n : ℕ) (left text : List ℕ) → most < n → number_from 0 text ≡ number_from n left → number_at most text ≡ None
+too_large most n left text past same =
+    let e = ap (λ (read : ℕ × List ℕ). read.0) same in
+    let g = grows n left in
+    let large : most < (number_from 0 text).0 = omega (arith, e, g, past) in
+    let no : nat_le (number_from 0 text).0 most ≡ false = grind (arith, nat_tests) in
+    ap (λ t. cond (begins_number text && t) (Some (number_from 0 text)) None) no ∙ neither (begins_number text)
+  where
+    neither : (b : Bool) → cond (b && false) (Some (number_from 0 text)) None ≡ None
+    neither true = refl
+    neither false = refl
+
 digit-range : (b : ℕ) → is_digit b ≡ true → (48 ≤ b) × (b ≤ 57)
 digit-range b d = (grind (arith, nat_tests), grind (arith, nat_tests))
 

@@ -1,5 +1,5 @@
 -- How a polynomial's text is read, piece by piece: what each piece says, and the text behind it.
-use Rattle.std.specs.Prelude.{ℕ, ◌+◌, ◌-◌, ◌*◌, List, [], ◌∷◌, Bool, true, false, if◌then◌else◌, ◌&&◌, ◌==◌, not, nat_le, nat_lt, Option, Some, None, replicate, length, pos}
+use Rattle.std.specs.Prelude.{◌≡◌, ◌≢◌, ℕ, ◌+◌, ◌-◌, ◌*◌, List, [], ◌∷◌, Bool, true, false, if◌then◌else◌, ◌&&◌, ◌==◌, not, nat_le, nat_lt, Option, Some, None, replicate, length, pos}
 use Rattle.poly_model.specs.Polynomial.{Entry}
 use Rattle.poly_model.specs.Content.{signed_by}
 use Rattle.poly_model.specs.declared.vars.VarName.{VarName}
@@ -60,6 +60,14 @@ joint_at joined text = if joined then behind star text else Some text
 abbrev pub name_behind : VarName → Option (List ℕ) → Option (List ℕ)
 name_behind name None = None
 name_behind name (Some text) = name_at name text
+
+-- No variable stands behind what was read before.
+abbrev pub NoName : Option (List ℕ) → Type 0
+NoName text = (name : VarName) → name_behind name text ≡ None
+
+-- This variable and no other stands behind what was read before, and this rest behind it.
+abbrev pub OnlyName : VarName → List ℕ → Option (List ℕ) → Type 0
+OnlyName name rest text = (name_behind name text ≡ Some rest) × ((other : VarName) → other ≢ name → name_behind other text ≡ None)
 
 -- The exponent behind what was read before, if that was read.
 abbrev pub exponent_behind : Option (List ℕ) → Option (ℕ × List ℕ)

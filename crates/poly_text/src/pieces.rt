@@ -1,7 +1,7 @@
-ghost use Rattle.std.specs.Prelude.{◌≡◌, ◌<◌, ◌≤◌, ◌^◌, ℕ, List, Option, Some, None, MatchOption, IfSome};
+ghost use Rattle.std.specs.Prelude.{◌≡◌, ◌<◌, ◌≤◌, ◌^◌, ℕ, List, Option, Some, None, MatchOption, IfSome, is_some};
 ghost use Rattle.poly_text.specs.Text.{letter};
 ghost use Rattle.poly_text.specs.Bytes.{is_digit};
-ghost use Rattle.poly_text.specs.Reading.{number_from, begins_number, number_at, behind, name_at, exponent_at, joint_at, factor_at};
+ghost use Rattle.poly_text.specs.Reading.{number_from, begins_number, number_at, behind, exponent_at, joint_at, NoName, OnlyName};
 
 use poly_model::{MOST_DEGREE, VarName};
 
@@ -32,6 +32,34 @@ fn behind(byte: u8, text: &[u8]) -> Option<&[u8]>
     }
 }
 
+/// Below this value, a digit more leaves a number within 64 bits.
+const SHORT: u64 = 1_000_000_000_000_000_000;
+
+/// The number that stands first without a leading zero, as far as it is below `SHORT` before its last digit, and the text
+/// behind those digits.
+fn read_start(text: &[u8]) -> Option<(u64, &[u8])>
+    ensures begins { begins_number text.now ≡ is_some result }
+    ensures part { IfSome result (λ read. number_from 0 text.now
+        ≡ number_from read.0 read.1.now) }
+    ensures whole { IfSome result (λ read. read.0 < SHORT → number_from 0 text.now
+        ≡ (read.0, read.1.now)) }
+{
+    if !begins_number(text) {
+        return None;
+    }
+    let (first, behind) = text.split_first()?;
+    let mut value = (*first - b'0') as u64;
+    let mut rest = behind;
+    while let Some((b, after)) = rest.split_first() {
+        if value >= SHORT || !is_digit(*b) {
+            break;
+        }
+        value = 10 * value + (*b - b'0') as u64;
+        rest = after;
+    }
+    Some((value, rest))
+}
+
 /// The decimal number that stands first, without a leading zero and at most `most`, and the text behind it.
 pub fn read_number(most: u128, text: &[u8]) -> Option<(u128, &[u8])>
     requires { most < 2 ^ 127 }
@@ -39,11 +67,9 @@ pub fn read_number(most: u128, text: &[u8]) -> Option<(u128, &[u8])>
     ensures read { MatchOption result (number_at most text.now
         ≡ None) (λ read. number_at most text.now ≡ Some (read.0, read.1.now)) }
 {
-    if !begins_number(text) {
-        return None;
-    }
-    let mut value: u128 = 0;
-    let mut rest = text;
+    let (start, behind) = read_start(text)?;
+    let mut value = start as u128;
+    let mut rest = behind;
     while let Some((b, after)) = rest.split_first() {
         if !is_digit(*b) {
             break;
@@ -57,6 +83,19 @@ pub fn read_number(most: u128, text: &[u8]) -> Option<(u128, &[u8])>
     Some((value, rest))
 }
 
+/// The number of a variable or of an exponent that stands first, at most `most`, and the text behind it.
+fn read_short(most: u8, text: &[u8]) -> Option<(u8, &[u8])>
+    ensures within { IfSome result (λ read. read.0 ≤ most) }
+    ensures read { MatchOption result (number_at most text.now
+        ≡ None) (λ read. number_at most text.now ≡ Some (read.0, read.1.now)) }
+{
+    let (value, rest) = read_start(text)?;
+    if value > most as u64 {
+        return None;
+    }
+    Some((value as u8, rest))
+}
+
 /// The byte of a variable's kind.
 pub fn letter(name: VarName) -> u8
     ensures { result ≡ letter name }
@@ -67,37 +106,41 @@ pub fn letter(name: VarName) -> u8
     }
 }
 
-/// The text behind the variable of this name, if it stands first.
-fn read_name(name: VarName, text: &[u8]) -> Option<&[u8]>
-    ensures { MatchOption result (name_at name text.now ≡ None) (λ rest. name_at name text.now
-        ≡ Some rest.now) }
+/// The name of the variable that stands first, and the text behind it.
+fn read_name(text: &[u8]) -> Option<(VarName, &[u8])>
+    ensures { MatchOption result (NoName (Some text.now)) (λ read. OnlyName read.0 read.1.now
+        (Some text.now)) }
 {
-    let digits = behind(letter(name), text)?;
-    let (n, rest) = read_number(255, digits)?;
-    if n == name.number() as u128 {
-        Some(rest)
-    } else {
-        None
+    let (letter, digits) = text.split_first()?;
+    if *letter != b'u' && *letter != b'x' {
+        return None;
     }
+    let (n, rest) = read_short(255, digits)?;
+    let name = if *letter == b'u' {
+        VarName::U(n)
+    } else {
+        VarName::X(n)
+    };
+    Some((name, rest))
+}
+
+/// The name of the variable that stands first behind its joint, and the text behind it.
+pub fn read_next_name(joined: bool, text: &[u8]) -> Option<(VarName, &[u8])>
+    ensures { MatchOption result (NoName (joint_at joined text.now))
+        (λ read. OnlyName read.0 read.1.now (joint_at joined text.now)) }
+{
+    let body = if joined { behind(b'*', text)? } else { text };
+    read_name(body)
 }
 
 /// The exponent that stands first, 1 where none is written, and the text behind it.
-fn read_exponent(text: &[u8]) -> Option<(u8, &[u8])>
+pub fn read_exponent(text: &[u8]) -> Option<(u8, &[u8])>
     ensures { MatchOption result (exponent_at text.now ≡ None) (λ read. exponent_at text.now
         ≡ Some (read.0, read.1.now)) }
 {
     let [b'^', digits @ ..] = text else {
         return Some((1, text));
     };
-    let (e, rest) = read_number(MOST_DEGREE as u128, digits)?;
-    if e > 1 { Some((e as u8, rest)) } else { None }
-}
-
-/// The exponent of the variable of this name, if that stands first, and the text behind it.
-pub fn read_factor(name: VarName, joined: bool, text: &[u8]) -> Option<(u8, &[u8])>
-    ensures { MatchOption result (factor_at name joined text.now
-        ≡ None) (λ read. factor_at name joined text.now ≡ Some (read.0, read.1.now)) }
-{
-    let body = if joined { behind(b'*', text)? } else { text };
-    read_exponent(read_name(name, body)?)
+    let (e, rest) = read_short(MOST_DEGREE, digits)?;
+    if e > 1 { Some((e, rest)) } else { None }
 }

@@ -1,12 +1,12 @@
-ghost use Rattle.std.specs.Prelude.{◌≡◌, ◌<◌, ◌≤◌, ◌-◌, ℕ, List, Some, None, MatchOption, length, nat_lt, pos};
+ghost use Rattle.std.specs.Prelude.{◌≡◌, ◌<◌, ◌≤◌, ◌-◌, ◌↔◌, ℕ, List, IsTrue, Some, None, MatchOption, length, nat_lt, pos};
 ghost use Rattle.std.specs.List.{list_any};
 ghost use Rattle.poly_model.specs.Content.{signed_by};
 ghost use Rattle.poly_model.specs.Standard.{entry_of};
 ghost use Rattle.poly_text.specs.Text.{is_left_out};
 ghost use Rattle.poly_text.specs.Reading.{factors_at, term_at, sign_at, entry_at};
 
-use crate::pieces::{read_factor, read_number};
-use poly_model::{MOST_SIZE, MOST_VARIABLES, Term, Vars};
+use crate::pieces::{read_exponent, read_next_name, read_number};
+use poly_model::{MOST_SIZE, MOST_VARIABLES, Term, VarName, Vars};
 
 fn has_variables(exps: &[u8; MOST_VARIABLES]) -> bool
     ensures { result ≡ list_any (λ e. nat_lt 0 e) exps.now }
@@ -21,21 +21,33 @@ pub fn is_left_out(size: u128, exps: &[u8; MOST_VARIABLES]) -> bool
     size == 1 && has_variables(exps)
 }
 
+fn is_same(name: VarName, other: VarName) -> bool
+    ensures { IsTrue result ↔ (name ≡ other) }
+{
+    name == other
+}
+
 /// The exponents of all variables as the text begins, and the text behind their factors.
 fn read_factors<'a>(vars: &Vars, joined: bool, text: &'a [u8]) -> ([u8; MOST_VARIABLES], &'a [u8])
     ensures { (result.0, result.1.now)
         ≡ factors_at (MOST_VARIABLES - length vars.now) joined vars.now text.now }
 {
     let mut exps = [0; MOST_VARIABLES];
-    let mut joined = joined;
     let mut rest = text;
+    let mut next = read_next_name(joined, text);
     for i in 0..vars.len() {
-        let Some((e, after)) = read_factor(vars.at(i), joined, rest) else {
+        let Some((name, behind)) = next else {
+            return (exps, rest);
+        };
+        if !is_same(vars.at(i), name) {
+            continue;
+        }
+        let Some((e, after)) = read_exponent(behind) else {
             continue;
         };
         exps[i] = e;
-        joined = true;
         rest = after;
+        next = read_next_name(true, after);
     }
     (exps, rest)
 }
