@@ -7,13 +7,12 @@ use Rattle.std.proofs.lemmas.Bool.Decides.{nat_tests}
 use Rattle.std.proofs.lemmas.Nat.Gcd.{mod-eq-zero_of_dvd}
 use Prim.Native.Nat.{◌∣◌}
 use Rattle.poly_model.proofs.Contents.{gcd-is}
-use Rattle.poly_model.specs.declared.limits.TheConstants.{MOST_DEGREE}
 use Rattle.std.specs.declared.cmp.Ordering.{Ordering}
 use Rattle.std.specs.declared.cmp.Ordering.TheVariants.{Less, Equal, Greater}
 use Rattle.poly_model.specs.declared.term.Term.{Term}
 use Rattle.poly_model.specs.Polynomial.{Polynomial, IsDescending, monomial_cmp, with_entry, add_entry, exponents_sum, poly_sum, poly_product, add_multiple}
 use Rattle.poly_model.specs.Content.{gcd, coefficients_gcd}
-use Rattle.poly_model.specs.Standard.{are_low, entry_of, polynomial_of}
+use Rattle.poly_model.specs.Standard.{entry_of, polynomial_of}
 use Rattle.algebraize.specs.Terms.{Stops, StandsAt, with_coefficient}
 
 pub with_entry-none : (es : List ℕ) (c : ℤ) (p : Polynomial) → c ≡ pos 0 → with_entry es c p ≡ p
@@ -114,43 +113,6 @@ not-below a b le t = grind (arith, nat_tests)
 pub poly_sum-last : (p : List Term) (t : Term) (q : Polynomial) → poly_sum (polynomial_of (p ++ t ∷ [])) q ≡ poly_sum (polynomial_of p) (add_entry t.exps t.coef q)
 poly_sum-last [] t q = refl
 poly_sum-last (x ∷ p) t q = ap (add_entry x.exps x.coef) (poly_sum-last p t q)
-
-pub low-at : (es : List ℕ) (i : ℕ) → IsTrue (are_low es) → get_or es i 0 ≤ MOST_DEGREE
-low-at [] i low = omega arith
-low-at (e ∷ es) zero low = grind (arith, nat_tests)
-low-at (e ∷ es) (suc i) low = low-at es i (second_true (nat_le e MOST_DEGREE) (are_low es) low)
-  where
-    second_true : (a b : Bool) → IsTrue (a && b) → IsTrue b
-    second_true true b t = t
-    second_true false b t = absurd (let h : false ≡ true = t in cc)
-
--- The first i exponents are added.
-abbrev pub added_first : ℕ → List ℕ → List ℕ → List ℕ
-added_first zero xs ys = xs
-added_first (suc i) [] ys = []
-added_first (suc i) (x ∷ xs) [] = x ∷ xs
-added_first (suc i) (x ∷ xs) (y ∷ ys) = (x + y) ∷ added_first i xs ys
-
-pub added_first-at : (i : ℕ) (xs ys : List ℕ) → length xs ≡ length ys → get_or (added_first i xs ys) i 0 ≡ get_or xs i 0
-added_first-at zero xs ys same = refl
-added_first-at (suc i) [] ys same = refl
-added_first-at (suc i) (x ∷ xs) [] same = absurd (omega arith)
-added_first-at (suc i) (x ∷ xs) (y ∷ ys) same = added_first-at i xs ys (omega arith)
-
-pub added_first-more : (i : ℕ) (xs ys : List ℕ) → i < length xs → length xs ≡ length ys
-    → set (added_first i xs ys) i (get_or (added_first i xs ys) i 0 + get_or ys i 0) ≡ added_first (suc i) xs ys
-added_first-more i [] ys below same = absurd (omega arith)
-added_first-more i (x ∷ xs) [] below same = absurd (omega arith)
-added_first-more zero (x ∷ xs) (y ∷ ys) below same = refl
-added_first-more (suc i) (x ∷ xs) (y ∷ ys) below same = ap (λ l. (x + y) ∷ l) (added_first-more i xs ys (omega arith) (omega arith))
-
-pub added_first-all : (i : ℕ) (xs ys : List ℕ) → length xs ≡ i → length ys ≡ i → added_first i xs ys ≡ exponents_sum xs ys
-added_first-all zero [] [] p q = refl
-added_first-all zero (x ∷ xs) ys p q = absurd (omega arith)
-added_first-all zero [] (y ∷ ys) p q = absurd (omega arith)
-added_first-all (suc i) [] ys p q = absurd (omega arith)
-added_first-all (suc i) (x ∷ xs) [] p q = absurd (omega arith)
-added_first-all (suc i) (x ∷ xs) (y ∷ ys) p q = ap (λ l. (x + y) ∷ l) (added_first-all i xs ys (omega arith) (omega arith))
 
 -- The product of p and q, added to r: the entries of p from the last on.
 abbrev pub multiples : Polynomial → Polynomial → Polynomial → Polynomial

@@ -22,4 +22,3 @@ pub use problem::{problems, system_of};
 pub use proof_steps::Problem;
 pub use ratio::{MILLIONTHS, MOST_MILLIONTHS};
 pub use system::write_system;
-

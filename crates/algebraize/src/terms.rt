@@ -1,14 +1,14 @@
 // Arithmetic on short lists of terms in descending order. Each function has a bound on what it takes, so that nothing overflows.
 ghost use Rattle.std.specs.Prelude.{pos, ◌≡◌, ◌≤◌, ◌<◌, ◌+◌, ◌*◌, ◌^◌, ◌++◌, ◌∷◌, List, [], IfOk, OnOk, IsTrue, IsSome, unsigned_abs, length, ◌↔◌};
 ghost use Rattle.poly_model.specs.Domain.{integer_in};
-ghost use Rattle.poly_model.specs.Polynomial.{IsDescending, add_entry, add_multiple, exponents_sum, poly_constant, poly_difference, poly_negative, poly_product, poly_scaled, poly_sum, poly_variable};
+ghost use Rattle.poly_model.specs.Polynomial.{IsDescending, add_entry, add_multiple, poly_constant, poly_difference, poly_negative, poly_product, poly_scaled, poly_sum, poly_variable};
 ghost use Rattle.poly_model.specs.Standard.{are_low, polynomial_of};
 ghost use Rattle.poly_model.specs.declared.limits.TheConstants.{MOST_DEGREE, MOST_SIZE, MOST_VARIABLES};
 ghost use Rattle.algebraize.specs.Equations.{polynomials};
 ghost use Rattle.algebraize.specs.Small.{is_low, weight};
 ghost use Rattle.algebraize.specs.Terms.{StandsAt, Stops, with_coefficient};
 
-use poly_model::{MOST_VARIABLES, Term, compare_monomials};
+use poly_model::{MOST_VARIABLES, Term, compare_monomials, exponents_sum};
 use std::alloc::{AllocError, Global};
 
 /// The variable at a place.
@@ -35,18 +35,6 @@ pub fn constant_one(alloc: Global) -> Result<Vec<Term>, AllocError>
         exps: [0; MOST_VARIABLES],
     })?;
     Ok(terms)
-}
-
-fn exponents_sum(a: &[u8; MOST_VARIABLES], b: &[u8; MOST_VARIABLES]) -> [u8; MOST_VARIABLES]
-    requires a { IsTrue (are_low a.now) }
-    requires b { IsTrue (are_low b.now) }
-    ensures { result ≡ exponents_sum a.now b.now }
-{
-    let mut sum = *a;
-    for i in 0..MOST_VARIABLES {
-        sum[i] += b[i];
-    }
-    sum
 }
 
 /// How many terms stand above a monomial.

@@ -23,5 +23,5 @@ pub use limits::{
 };
 pub use owned::OwnedPoly;
 pub use row::Row;
-pub use term::{Term, are_low, are_standard, compare_monomials, eight_exponents};
+pub use term::{Term, are_low, are_standard, compare_monomials, eight_exponents, exponents_sum};
 pub use vars::{VarName, Vars};

@@ -1,7 +1,7 @@
-ghost use Rattle.std.specs.Prelude.{◌≡◌, ◌+◌, ◌≤◌, take, drop};
+ghost use Rattle.std.specs.Prelude.{◌≡◌, ◌+◌, ◌≤◌, IsTrue, take, drop};
 ghost use Rattle.std.specs.Simd.Lanes.{number_l};
 ghost use Rattle.poly_model.specs.declared.limits.TheConstants.{MOST_VARIABLES};
-ghost use Rattle.poly_model.specs.Polynomial.{monomial_cmp};
+ghost use Rattle.poly_model.specs.Polynomial.{exponents_sum, monomial_cmp};
 ghost use Rattle.poly_model.specs.Standard.{entry_of, polynomial_of, are_low, is_within, is_above, are_descending, is_standard};
 
 use crate::limits::{MOST_DEGREE, MOST_SIZE, MOST_TERMS, MOST_VARIABLES};
@@ -56,6 +56,19 @@ pub fn are_low(exps: &[u8; MOST_VARIABLES]) -> bool
         highest = highest.max(*e);
     }
     highest <= MOST_DEGREE
+}
+
+/// The exponents of a product of two monomials.
+pub fn exponents_sum(a: &[u8; MOST_VARIABLES], b: &[u8; MOST_VARIABLES]) -> [u8; MOST_VARIABLES]
+    requires a { IsTrue (are_low a.now) }
+    requires b { IsTrue (are_low b.now) }
+    ensures { result ≡ exponents_sum a.now b.now }
+{
+    let mut sum = *a;
+    for i in 0..MOST_VARIABLES {
+        sum[i] += b[i];
+    }
+    sum
 }
 
 impl Term {

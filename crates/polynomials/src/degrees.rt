@@ -5,10 +5,10 @@ ghost use Rattle.term_store.specs.States.{IsLive, list_at};
 ghost use Rattle.poly_model.specs.Bounded.{degrees_of, degrees_fit, bounded_product, bounded_sum};
 ghost use Rattle.polynomials.specs.Held.{polynomial_at, IsPoly, Answers};
 
-use crate::exponents::{exponents_sum, raise};
+use crate::exponents::raise;
 use crate::poly::Poly;
 use crate::product::mul_rows;
-use poly_model::{Limit, MOST_VARIABLES, are_low};
+use poly_model::{Limit, MOST_VARIABLES, are_low, exponents_sum};
 use term_store::{Slot, TermStore};
 
 /// The degree in each variable.

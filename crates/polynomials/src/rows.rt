@@ -10,9 +10,8 @@ ghost use Rattle.poly_model.specs.Standard.{are_bounded};
 ghost use Rattle.poly_model.specs.Bounded.{multiple, bounded_row};
 ghost use Rattle.poly_model.proofs.Within.{all_low};
 
-use crate::exponents::exponents_sum;
 use edge_num::{add_in, mul_in};
-use poly_model::{MOST_VARIABLES, Term, compare_monomials};
+use poly_model::{MOST_VARIABLES, Term, compare_monomials, exponents_sum};
 use std::cmp::Ordering;
 use term_store::{Slot, TermStore};
 

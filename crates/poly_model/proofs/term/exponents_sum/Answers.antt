@@ -1,7 +1,7 @@
 use Rattle.std.proofs.Common.{◌≡◌, ◌<◌, ◌+◌, sym, ◌∙◌, ap, arith, get_or, set, add-one, length}
-use Rattle.algebraize.proofs.Changes as changes
-use Rattle.algebraize.proofs.Changes.{added_first}
-use Rattle.algebraize.proofs.terms.exponents_sum.Goals as goal
+use Rattle.poly_model.proofs.Adding as changes
+use Rattle.poly_model.proofs.Adding.{added_first}
+use Rattle.poly_model.proofs.term.exponents_sum.Goals as goal
 
 pub overflow_add-sum : goal.overflow_add-sum
 overflow_add-sum c =
