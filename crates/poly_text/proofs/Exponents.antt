@@ -1,10 +1,10 @@
 -- The exponents that are read so far.
-use Rattle.std.proofs.Common.{◌≡◌, ◌≢◌, ℕ, ◌+◌, ◌-◌, ◌<◌, ◌≤◌, suc, List, [], ◌∷◌, ◌++◌, length, take, drop, get_or, set, replicate, Bool, true, sym, ◌∙◌, ap, arith, Some, None, append_assoc, length-drop}
-use Rattle.std.proofs.lemmas.List.{take_more, take-append-drop, drop_all, drop-set-lt, length-set}
+use Rattle.std.proofs.Common.{◌≡◌, ◌≢◌, ℕ, ◌+◌, ◌-◌, ◌<◌, ◌≤◌, zero, suc, List, [], ◌∷◌, ◌++◌, length, take, drop, get_or, set, replicate, Bool, true, refl, sym, ◌∙◌, ap, subst, arith, Some, None, append_assoc, length-drop}
+use Rattle.std.proofs.lemmas.List.{take_more, take-append-drop, drop_all, drop-set-lt, length-set, get_or_default}
 use Rattle.std.proofs.Math.Seq.{drop-cons, take-suc-set}
 use Rattle.poly_model.specs.declared.vars.VarName.{VarName}
 use Rattle.poly_model.specs.declared.limits.TheConstants.{MOST_VARIABLES}
-use Rattle.poly_text.specs.Reading.{joint_at, exponent_at, exponent_behind, factor_at, factors_at, NoName, OnlyName}
+use Rattle.poly_text.specs.Reading.{joint_at, exponent_at, exponent_behind, factor_at, factors_at, NoName, OnlyName, Lacks}
 use Rattle.poly_text.proofs.Factors.{next}
 
 -- the factors up to i were read: what is left of the text gives the other exponents
@@ -12,6 +12,9 @@ pub record FactorsRead (spare : ℕ) (before joined : Bool) (names : List VarNam
   pub whole : length exps ≡ MOST_VARIABLES
   pub none : drop i exps ≡ replicate (MOST_VARIABLES - i) 0
   pub reads : factors_at spare before names text ≡ (take i exps ++ (factors_at spare joined (drop i names) rest).0, (factors_at spare joined (drop i names) rest).1)
+
+pub none_yet : (spare : ℕ) (joined : Bool) (names : List VarName) (text : List ℕ) → FactorsRead spare joined joined names text text (replicate MOST_VARIABLES 0) 0
+none_yet spare joined names text = record { whole = refl; none = refl; reads = refl }
 
 head : ℕ → List ℕ → ℕ
 head d [] = d
@@ -73,7 +76,7 @@ module _ (spare : ℕ) (before joined : Bool) (names : List VarName) (text rest 
       }
 
   -- another variable stands there
-  pub passed : (other : VarName) (behind : List ℕ) → i < length names → i < MOST_VARIABLES → get_or names i name ≡ name → name ≢ other
+  passed : (other : VarName) (behind : List ℕ) → i < length names → i < MOST_VARIABLES → get_or names i name ≡ name → name ≢ other
       → OnlyName other behind (joint_at joined rest) → FactorsRead spare before joined names text rest exps i → FactorsRead spare before joined names text rest exps (i + 1)
   passed other behind below within named differs only h = absent below within named (ap exponent_behind (only.1 name differs)) h
 
@@ -86,6 +89,31 @@ module _ (spare : ℕ) (before joined : Bool) (names : List VarName) (text rest 
   pub taken : (behind : List ℕ) (e : ℕ) (after : List ℕ) → i < length names → i < MOST_VARIABLES → get_or names i name ≡ name → exponent_at behind ≡ Some (e, after)
       → OnlyName name behind (joint_at joined rest) → FactorsRead spare before joined names text rest exps i → FactorsRead spare before true names text after (set exps i e) (i + 1)
   taken behind e after below within named some only h = present e after below within named (ap exponent_behind only.0 ∙ some) h
+
+-- the places that lack the variable are passed
+skipped : (spare : ℕ) (before joined : Bool) (names : List VarName) (text rest exps : List ℕ) (i k : ℕ) (name : VarName) (behind : List ℕ) → i + k ≤ length names
+    → length names ≤ MOST_VARIABLES → Lacks i (i + k) name names → OnlyName name behind (joint_at joined rest)
+    → FactorsRead spare before joined names text rest exps i → FactorsRead spare before joined names text rest exps (i + k)
+skipped spare before joined names text rest exps i zero name behind low few lacks only h =
+    subst (FactorsRead spare before joined names text rest exps) (let e : i ≡ i + 0 = omega arith in e) h
+skipped spare before joined names text rest exps i (suc k) name behind low few lacks only h =
+    let less : i + k < length names = omega (arith, low) in
+    let found = get_or names (i + k) name in
+    let named : get_or names (i + k) found ≡ found = get_or_default names (i + k) found name less in
+    let differs : found ≢ name = lacks (i + k) (omega arith) (omega arith) less in
+    let lacks_so_far : Lacks i (i + k) name names = λ j above below lt. lacks j above (omega (arith, below)) lt in
+    let done = skipped spare before joined names text rest exps i k name behind (omega (arith, low)) few lacks_so_far only h in
+    subst (FactorsRead spare before joined names text rest exps) (let e : i + k + 1 ≡ i + suc k = omega arith in e)
+    (passed spare before joined names text rest exps (i + k) found name behind less (omega (arith, less, few)) named differs only done)
+
+pub skipped_to : (spare : ℕ) (before joined : Bool) (names : List VarName) (text rest exps : List ℕ) (i : ℕ) (name : VarName) (behind : List ℕ) (place : ℕ) → i ≤ place
+    → place ≤ length names → length names ≤ MOST_VARIABLES → Lacks i place name names → OnlyName name behind (joint_at joined rest)
+    → FactorsRead spare before joined names text rest exps i → FactorsRead spare before joined names text rest exps place
+skipped_to spare before joined names text rest exps i name behind place low high few lacks only h =
+    let e : i + (place - i) ≡ place = omega (arith, low) in
+    let lacks_so_far : Lacks i (i + (place - i)) name names = λ j above below lt. lacks j above (omega (arith, below, e)) lt in
+    subst (FactorsRead spare before joined names text rest exps) e
+    (skipped spare before joined names text rest exps i (place - i) name behind (omega (arith, e, high)) few lacks_so_far only h)
 
 -- no factor is read behind the places that were read
 nothing_more : (spare : ℕ) (before joined : Bool) (names : List VarName) (text rest exps : List ℕ) (i : ℕ)

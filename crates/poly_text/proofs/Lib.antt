@@ -1,6 +1,7 @@
 pub mod Numbers
 pub mod Factors
 pub mod Exponents
+pub mod Places
 pub mod Entries
 pub mod Unique
 pub mod Progress

@@ -1,5 +1,5 @@
 -- How a polynomial's text is read, piece by piece: what each piece says, and the text behind it.
-use Rattle.std.specs.Prelude.{◌≡◌, ◌≢◌, ℕ, ◌+◌, ◌-◌, ◌*◌, List, [], ◌∷◌, Bool, true, false, if◌then◌else◌, ◌&&◌, ◌==◌, not, nat_le, nat_lt, Option, Some, None, replicate, length, pos}
+use Rattle.std.specs.Prelude.{◌≡◌, ◌≢◌, ◌<◌, ◌≤◌, ℕ, ◌+◌, ◌-◌, ◌*◌, List, [], ◌∷◌, Bool, true, false, if◌then◌else◌, ◌&&◌, ◌==◌, not, nat_le, nat_lt, Option, Some, None, replicate, length, get_or, pos}
 use Rattle.poly_model.specs.Polynomial.{Entry}
 use Rattle.poly_model.specs.Content.{signed_by}
 use Rattle.poly_model.specs.declared.vars.VarName.{VarName}
@@ -77,6 +77,10 @@ exponent_behind (Some text) = exponent_at text
 -- The variable of this name with its exponent.
 abbrev pub factor_at : VarName → Bool → List ℕ → Option (ℕ × List ℕ)
 factor_at name joined text = exponent_behind (name_behind name (joint_at joined text))
+
+-- None of the places from one up to another has this name.
+abbrev pub Lacks : ℕ → ℕ → VarName → List VarName → Type 0
+Lacks from to name names = (i : ℕ) → from ≤ i → i < to → i < length names → get_or names i name ≢ name
 
 -- The exponents of the variables in their order; those without a factor have 0, and so have the `spare` ones behind them.
 abbrev pub factors_at : ℕ → Bool → List VarName → List ℕ → List ℕ × List ℕ

@@ -1,9 +1,9 @@
-ghost use Rattle.std.specs.Prelude.{◌≡◌, ◌<◌, ◌≤◌, ◌-◌, ◌↔◌, ℕ, List, IsTrue, Some, None, MatchOption, length, nat_lt, pos};
+ghost use Rattle.std.specs.Prelude.{◌≡◌, ◌<◌, ◌≤◌, ◌-◌, ◌↔◌, ℕ, List, IsTrue, Some, None, MatchOption, length, get_or, nat_lt, pos};
 ghost use Rattle.std.specs.List.{list_any};
 ghost use Rattle.poly_model.specs.Content.{signed_by};
 ghost use Rattle.poly_model.specs.Standard.{entry_of};
 ghost use Rattle.poly_text.specs.Text.{is_left_out};
-ghost use Rattle.poly_text.specs.Reading.{factors_at, term_at, sign_at, entry_at};
+ghost use Rattle.poly_text.specs.Reading.{Lacks, factors_at, term_at, sign_at, entry_at};
 
 use crate::pieces::{read_exponent, read_next_name, read_number};
 use poly_model::{MOST_SIZE, MOST_VARIABLES, Term, VarName, Vars};
@@ -27,25 +27,40 @@ fn is_same(name: VarName, other: VarName) -> bool
     name == other
 }
 
+/// The first place of a variable from a place on. The n-th variable of a kind has n - 1 of its kind before it.
+fn place_from(from: usize, name: VarName, vars: &Vars) -> Option<usize>
+    ensures { MatchOption result (Lacks from (length vars.now) name vars.now) (λ place. (from
+        ≤ place) × (place < length vars.now) × (get_or vars.now place name ≡ name)
+        × Lacks from place name vars.now) }
+{
+    let before = (name.number() as usize).saturating_sub(1);
+    for i in from.max(before)..vars.len() {
+        if is_same(vars.at(i), name) {
+            return Some(i);
+        }
+    }
+    None
+}
+
 /// The exponents of all variables as the text begins, and the text behind their factors.
 fn read_factors<'a>(vars: &Vars, joined: bool, text: &'a [u8]) -> ([u8; MOST_VARIABLES], &'a [u8])
     ensures { (result.0, result.1.now)
         ≡ factors_at (MOST_VARIABLES - length vars.now) joined vars.now text.now }
 {
+    prove!(vars.len() <= MOST_VARIABLES);
     let mut exps = [0; MOST_VARIABLES];
     let mut rest = text;
     let mut next = read_next_name(joined, text);
-    for i in 0..vars.len() {
-        let Some((name, behind)) = next else {
+    let mut i = 0;
+    while let Some((name, behind)) = next {
+        let Some(place) = place_from(i, name, vars) else {
             return (exps, rest);
         };
-        if !is_same(vars.at(i), name) {
-            continue;
-        }
+        i = place + 1;
         let Some((e, after)) = read_exponent(behind) else {
             continue;
         };
-        exps[i] = e;
+        exps[place] = e;
         rest = after;
         next = read_next_name(true, after);
     }

@@ -1,29 +1,34 @@
-use Rattle.std.proofs.Common.{◌≡◌, ◌≢◌, arith, sym, ◌∙◌, true, false}
-use Rattle.poly_text.proofs.Exponents.{passed, without, taken, none_left}
+use Rattle.std.proofs.Common.{arith, true, length}
+use Rattle.poly_text.proofs.Exponents.{none_yet, skipped_to, without, taken, none_left, all_read}
 use Rattle.poly_text.proofs.terms.read_factors.Goals as goal
 
-pub returns-in_default : goal.returns-in_default
-returns-in_default c =
-    let h = c.loop-i.invariant in
-    none_left _ h.0 _ _ _ _ _ (omega arith) (omega (arith, c.len-i-end.ensures.within, c.len-i-end.ensures.len)) (rw c.in_default.is at h.2) h.1
+pub loop-next-init : goal.loop-next-init
+loop-next-init c = (c.args.joined, none_yet _ _ _ _, c.read_next_name-next.ensures, omega arith, omega (arith, c.len.ensures.len, c.len.ensures.within))
 
-pub loop-i-preserved-then-not-is_same : goal.loop-i-preserved-then-not-is_same
-loop-i-preserved-then-not-is_same c =
-    let h = c.loop-i.invariant in
-    let differs : c.at.result ≢ c.in-Some.name = λ e. (let f : true ≡ false = sym (c.is_same.ensures.1 e) ∙ c.if-not-is_same.true in cc) in
-    (h.0, passed _ _ _ _ _ _ _ _ c.at.result _ _ (omega arith) (omega arith) (sym c.at.ensures) differs (rw c.in-Some.is at h.2) h.1, h.2)
-
-pub loop-i-preserved-in_default-read_exponent : goal.loop-i-preserved-in_default-read_exponent
-loop-i-preserved-in_default-read_exponent c =
-    let h = c.loop-i.invariant in
-    let same = c.is_same.ensures.0 c.if-not-is_same.false in
+pub returns-in_default-place_from : goal.returns-in_default-place_from
+returns-in_default-place_from c =
+    let h = c.loop-next.invariant in
     let only = rw c.in-Some.is at h.2 in
-    (h.0, without _ _ _ _ _ _ _ _ c.in-Some.name _ (omega arith) (omega arith) (rw same at (sym c.at.ensures)) c.in_default-read_exponent.ensures only h.1, h.2)
+    all_read _ h.0 _ _ _ _ (length c.args.vars.now) (omega arith) (omega arith)
+    (skipped_to _ _ _ _ _ _ _ _ _ _ _ h.3 (omega arith) h.4 c.in_default-place_from.ensures only h.1)
 
-pub loop-i-preserved : goal.loop-i-preserved
-loop-i-preserved c =
-    let h = c.loop-i.invariant in
-    let same = c.is_same.ensures.0 c.if-not-is_same.false in
+pub loop-next-preserved-in_default-read_exponent : goal.loop-next-preserved-in_default-read_exponent
+loop-next-preserved-in_default-read_exponent c =
+    let h = c.loop-next.invariant in
+    let p = c.in-Some-place_from.ensures in
     let only = rw c.in-Some.is at h.2 in
-    let next = taken _ _ _ _ _ _ _ _ c.in-Some.name _ _ _ (omega arith) (omega arith) (rw same at (sym c.at.ensures)) c.in-Some-read_exponent.ensures only h.1 in
-    (true, next, c.read_next_name-next-in-loop-i.ensures)
+    let at_place = skipped_to _ _ _ _ _ _ _ _ _ _ _ p.0 (omega (arith, p.1)) h.4 p.3 only h.1 in
+    (h.0, without _ _ _ _ _ _ _ _ _ _ p.1 (omega (arith, p.1, h.4)) p.2 c.in_default-read_exponent.ensures only at_place, h.2, omega (arith, p.1), h.4)
+
+pub loop-next-preserved : goal.loop-next-preserved
+loop-next-preserved c =
+    let h = c.loop-next.invariant in
+    let p = c.in-Some-place_from.ensures in
+    let only = rw c.in-Some.is at h.2 in
+    let at_place = skipped_to _ _ _ _ _ _ _ _ _ _ _ p.0 (omega (arith, p.1)) h.4 p.3 only h.1 in
+    (true, taken _ _ _ _ _ _ _ _ _ _ _ _ p.1 (omega (arith, p.1, h.4)) p.2 c.in-Some-read_exponent.ensures only at_place, c.read_next_name-next-in-Some.ensures, omega (arith, p.1), h.4)
+
+pub returns : goal.returns
+returns c =
+    let h = c.loop-next.invariant in
+    none_left _ h.0 _ _ _ _ _ h.3 h.4 (rw c.in_default.is at h.2) h.1
