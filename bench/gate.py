@@ -1,5 +1,5 @@
 #!/usr/bin/env python3
-"""Runs the whole gate from nothing, and tells how many processor minutes each crate takes for its proof, its tests and its
+"""Runs the whole gate from nothing, and tells how many minutes of user time each crate takes for its proof, its tests and its
 must-fail edits. Run it on a machine that does nothing else; what the gate says goes to gate.log."""
 import collections
 import os
@@ -18,7 +18,7 @@ def lines_of(crate):
 
 
 def jobs():
-    """The prover's processes: their number, what they are for, and the processor time that they have had, in seconds."""
+    """The prover's processes: their number, what they are for, and the user time that they and their own processes had, in seconds."""
     for process in pathlib.Path("/proc").iterdir():
         try:
             words = (process / "cmdline").read_bytes().decode().split("\0")
@@ -29,7 +29,7 @@ def jobs():
             continue
         kind = "tests" if "--test" in words else "edits" if words[1] == "check" else "proof"
         crate = words[words.index("--crate-name") + 1]
-        yield process.name, (crate, kind), sum(map(int, fields[11:15])) / TICKS
+        yield process.name, (crate, kind), (int(fields[11]) + int(fields[13])) / TICKS
 
 
 def main():
@@ -49,7 +49,7 @@ def main():
         parts = [minutes[crate, kind] for kind in ("proof", "tests", "edits")]
         lines = lines_of(crate)
         print(f"| `{crate}` | {lines:,} |", " | ".join(f"{m:.1f}" for m in parts), f"| {1000 * sum(parts) / lines:.1f} |")
-    print(f"All: {sum(minutes.values()):.0f} processor minutes; the gate ended with status {gate.returncode}")
+    print(f"All: {sum(minutes.values()):.0f} minutes of user time; the gate ended with status {gate.returncode}")
 
 
 if __name__ == "__main__":
