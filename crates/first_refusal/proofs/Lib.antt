@@ -1,3 +1,4 @@
 mod Reading
+mod OneToken
 mod Parsers
 mod Commands

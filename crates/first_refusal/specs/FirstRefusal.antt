@@ -13,14 +13,16 @@ use Rattle.gcl_reader.specs.declared.file.Command.{Command}
 abbrev pub Begin : List Token → Type 0
 Begin ts = (more : List Token) × (commands : List Command) × Spells (ts ++ more) commands × IsFitting commands
 
--- Behind the tokens before it, the first of the rest offends, and the refusal has its place;
--- or nothing is left, the tokens spell no fitting commands, and the refusal is that of a file that ends inside one.
+-- The refusal is that of the first token behind those before it, and together with it they begin no fitting commands.
+-- Or no token is behind them: they spell no fitting commands, and the refusal is that of a file that ends inside one.
 abbrev pub Offends : List ℕ → List Token → List Token → Refusal → Type 0
 Offends bytes before [] r =
-    (r ≡ refusal kind.EndInside (span_of_end (lexed bytes))) × ((commands : List Command) → Spells before commands → IsFitting commands → ⊥)
+    (r ≡ refusal kind.EndInside (span_of_end (lexed bytes)))
+    × ((commands : List Command) → Spells before commands → IsFitting commands → ⊥)
 Offends bytes before (t ∷ behind) r = (r ≡ refused r.kind t) × (Begin (before ++ t ∷ []) → ⊥)
 
--- So it is in every file that is refused.
+-- Where a file is refused, the tokens before that place begin fitting commands.
 abbrev pub TheFirstOffends : Type 0
 TheFirstOffends = (bytes : List ℕ) (r : Refusal) → file_of bytes ≡ Err r →
-    (before : List Token) × (rest : List Token) × (tokens bytes ≡ before ++ rest) × Begin before × Offends bytes before rest r
+    (before : List Token) × (rest : List Token) × (tokens bytes ≡ before ++ rest)
+    × Begin before × Offends bytes before rest r
