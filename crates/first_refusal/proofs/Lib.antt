@@ -1,0 +1,4 @@
+mod Reading
+mod OneToken
+mod Parsers
+mod Commands
