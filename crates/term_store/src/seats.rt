@@ -73,6 +73,8 @@ fn gather_behind(
 }
 
 /// Gathers the live lists anew. The one at the place `last` comes last.
+#[cold]
+#[inline(never)]
 pub fn compact(
     terms: &mut Vec<Term>,
     places: &mut Vec<Place>,
