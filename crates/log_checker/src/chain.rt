@@ -44,7 +44,7 @@ fn system_due(system: &System) -> Due
     ensures { IsDue system.now.lists.eqs system.now.cons system.now.done result }
 {
     let eqs = system.lists.eqs.as_slice();
-    next_due(eqs, system.cons.as_slice(), system.done)
+    next_due(eqs, &system.classes, system.cons.as_slice(), system.done)
 }
 
 /// The reduction that is due, if one is.
@@ -88,6 +88,7 @@ fn advanced(system: System, at: usize, r: OwnedPoly) -> System
 {
     let System {
         lists,
+        classes,
         cons,
         fuel,
         ..
@@ -97,6 +98,7 @@ fn advanced(system: System, at: usize, r: OwnedPoly) -> System
     cons[at] = r;
     System {
         lists,
+        classes,
         cons: Row::from_vec(cons),
         done: at,
         fuel: fuel.saturating_sub(cost),

@@ -13,7 +13,7 @@ use crate::children::{children, copies};
 use crate::ending::Ending;
 use crate::node::{fuel_beside, with_equation, with_fuel, without};
 use crate::piece::{Inside, Lists, System};
-use crate::reads::{is_number, numbered};
+use crate::reads::{classes_of, is_number, numbered};
 use crate::rules::{Trial, may_drop, try_red, try_split, try_tail};
 use crate::triangular::is_triangular;
 use poly_model::{OwnedPoly, Row};
@@ -143,7 +143,8 @@ pub fn system_row<S: TermStore>(
     ensures { IfOk result (λ o. inside_views o ≡ system_row cons.now node) }
 {
     let Node { eqs, nes, fuel, .. } = node;
-    if !is_triangular(alloc, s, eqs.as_slice(), nes.as_slice())? {
+    let classes = classes_of(alloc, eqs.as_slice())?;
+    if !is_triangular(alloc, s, eqs.as_slice(), &classes, nes.as_slice())? {
         return Ok(None);
     }
     let left = fuel_beside(eqs.as_slice(), nes.as_slice(), fuel).unwrap_or(0);
@@ -155,6 +156,7 @@ pub fn system_row<S: TermStore>(
             eqs_listed: 0,
             nes_listed: 0,
         },
+        classes,
         cons,
         done: 0,
         fuel: left,
