@@ -120,7 +120,7 @@ stands-alone E N classes i n f e h at some c one =
     ap (has_known_initial N) at ∙ sym (settled-alone E N i h (eq-eqb _ 1 single))
     ∙ sym (ap (λ b. b && is_settled E N (class_of (get_or E i []))) (not-constant (get_or E i []) (λ z. some (x ∙ z))))
 
-pub known-so : {E : Type 0} (o : Result Bool E) (a b : Bool) → a ≡ b → IfOk o (λ k. k ≡ a) → IfOk o (λ k. k ≡ b)
+pub known-so : {A E : Type 0} (o : Result A E) (a b : A) → a ≡ b → IfOk o (λ k. k ≡ a) → IfOk o (λ k. k ≡ b)
 known-so (Ok k) a b e h = h ∙ e
 known-so (Err x) a b e h = h
 

@@ -52,7 +52,7 @@ pub fn red_row<S: TermStore>(
     ensures { IfOk result (λ o. (version : ℕ) → o
         ≡ where_fits (step_fits version node (step.Red g f m r)) (stepped node (step.Red g f m r))) }
 {
-    let Trial::Gives(found) = try_red(alloc, s, &node, g, f)? else {
+    let Trial::Gives(found) = try_red(alloc, s, &node, g, f, Some(&r))? else {
         return Ok(None);
     };
     if !tells(m, &r, &found) {
