@@ -1,6 +1,7 @@
 -- What is due of the conclusions, and what comes of it.
 use Rattle.std.proofs.Common.{◌≡◌, ◌≢◌, ℕ, ◌+◌, ◌-◌, ◌<◌, ◌≤◌, zero, suc, List, [], ◌∷◌, length, drop, get_or, refl, sym, ◌∙◌, ap, arith, true, false, subst}
 use Rattle.std.specs.Prelude.{◌==◌, unwrap_or, Option, Some}
+use Rattle.std.proofs.lemmas.Bool.{eq-eqb}
 use Rattle.std.proofs.lemmas.Bool.Decides.{nat_tests}
 use Rattle.poly_model.specs.Polynomial.{Polynomial}
 use Rattle.poly_model.specs.Reduction.{class_of}
@@ -25,6 +26,16 @@ first-next E x i m h other e =
     ap {B = Option ℕ} (λ b. elim b [ true ↦ Some (suc i) | false ↦ first_from (λ k. class_of (item E k) == x) (length E - (i + 1)) (suc (suc i)) ]) test in
     let more : suc (suc i) ≡ suc (i + 1) = omega arith in
     sym (ap (λ o. unwrap_or o 0) (ap (λ n. first_from (λ k. class_of (item E k) == x) n (suc i)) count ∙ one ∙ ap (λ k. first_from (λ j. class_of (item E j) == x) (length E - (i + 1)) k) more)) ∙ e
+
+pub first-here : (E : List Polynomial) (x i m : ℕ) → i < length E → class_of (get_or E i []) ≡ x → unwrap_or (first_from (λ k. class_of (item E k) == x) (length E - i) (suc i)) 0 ≡ m → i + 1 ≡ m
+first-here E x i m h is e =
+    let count : length E - i ≡ suc (length E - (i + 1)) = omega (arith, h) in
+    let here : suc i - 1 ≡ i = omega arith in
+    let test : (class_of (item E (suc i)) == x) ≡ true = ap (λ k. class_of (get_or E k []) == x) here ∙ eq-eqb _ _ is in
+    let one : first_from (λ k. class_of (item E k) == x) (suc (length E - (i + 1))) (suc i) ≡ Some (suc i) =
+    ap {B = Option ℕ} (λ b. elim b [ true ↦ Some (suc i) | false ↦ first_from (λ k. class_of (item E k) == x) (length E - (i + 1)) (suc (suc i)) ]) test in
+    let more : i + 1 ≡ suc i = omega arith in
+    more ∙ sym (ap (λ o. unwrap_or o 0) (ap (λ n. first_from (λ k. class_of (item E k) == x) n (suc i)) count ∙ one)) ∙ e
 
 -- ---- lists from a place on
 pub drop-step : (ps : List Polynomial) (k : ℕ) → k < length ps → drop k ps ≡ get_or ps k [] ∷ drop (suc k) ps

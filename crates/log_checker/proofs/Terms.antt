@@ -1,5 +1,5 @@
 -- What the terms of a polynomial within the limits tell.
-use Rattle.std.proofs.Common.{◌≡◌, ℕ, ◌≤◌, List, [], ◌∷◌, length, get_or, refl, sym, ◌∙◌, arith, true, false, ◌&&◌, not, suc}
+use Rattle.std.proofs.Common.{◌≡◌, ℕ, ◌-◌, ◌<◌, ◌≤◌, List, [], ◌∷◌, length, get_or, refl, sym, ◌∙◌, ap, arith, true, false, ◌&&◌, not, suc}
 use Rattle.std.specs.Prelude.{◌==◌, pos}
 use Rattle.std.specs.Ordering.{int_eq}
 use Rattle.std.proofs.lemmas.Bool.{and_from, leb-true}
@@ -9,8 +9,8 @@ use Rattle.poly_model.specs.Standard.{is_standard, polynomial_of}
 use Rattle.poly_model.specs.declared.limits.TheConstants.{MOST_VARIABLES, MOST_TERMS}
 use Rattle.poly_model.specs.declared.term.Term.{Term}
 use Rattle.poly_model.proofs.Within.{within-of}
-use Rattle.poly_model.specs.Reduction.{class_of, monomial_class, number_of, is_zero, is_nonzero_constant}
-use Rattle.poly_model.proofs.Front.{zero-empty}
+use Rattle.poly_model.specs.Reduction.{class_of, main_degree, monomial_class, number_of, is_zero, is_nonzero_constant}
+use Rattle.poly_model.proofs.Front.{zero-empty, class-first, degree-first}
 use Rattle.polynomials.proofs.Reading.{class-within, class-of_first}
 
 pub few-terms : (p : Polynomial) → is_standard p ≡ true → length p ≤ MOST_TERMS
@@ -52,3 +52,16 @@ number-tells xs e some =
 pub no-terms : (xs : List Term) → (length xs == 0) ≡ true → class_of (polynomial_of xs) ≡ 0
 no-terms [] e = refl
 no-terms (x ∷ xs) e = absurd (let h : false ≡ true = sym (one-more (length xs)) ∙ e in cc)
+
+-- ---- the first term of one with a greatest variable
+pub some-term : (xs : List Term) (x : ℕ) → class_of (polynomial_of xs) ≡ suc x → 0 < length xs
+some-term [] x k = absurd (omega (arith, k))
+some-term (t ∷ xs) x k = omega arith
+
+pub first-degree : (xs : List Term) (d : Term) (x : ℕ) → is_standard (polynomial_of xs) ≡ true → class_of (polynomial_of xs) ≡ suc x → get_or (get_or xs 0 d).exps x 0 ≡ main_degree (polynomial_of xs)
+first-degree [] d x e k = absurd (omega (arith, k))
+first-degree (t ∷ xs) d x e k =
+    let w = (within-of (polynomial_of (t ∷ xs)) e).descending in
+    let m : monomial_class t.exps ≡ suc x = sym (class-first MOST_VARIABLES t.exps t.coef (polynomial_of xs) w) ∙ k in
+    let back : suc x - 1 ≡ x = omega arith in
+    sym (degree-first MOST_VARIABLES t.exps t.coef (polynomial_of xs) w ∙ ap (λ y. get_or t.exps (y - 1) 0) m ∙ ap (λ k. get_or t.exps k 0) back)

@@ -2,7 +2,7 @@
 ghost use Rattle.std.specs.Prelude.{◌≡◌, ◌≤◌, ◌+◌, IfOk, OnOk, IsTrue, suc, length, false};
 ghost use Rattle.std.specs.FinMap.{remove};
 ghost use Rattle.poly_model.specs.Content.{primitive_part};
-ghost use Rattle.poly_model.specs.Reduction.{is_constant, class_of, reaches, primitive_initial, primitive_tail};
+ghost use Rattle.poly_model.specs.Reduction.{same, is_constant, class_of, reaches, primitive_initial, primitive_tail};
 ghost use Rattle.poly_model.specs.Bounded.{bounded_reduction};
 ghost use Rattle.poly_model.specs.declared.limits.TheConstants.{ROW_UNITS, STEP_UNITS, ARITH_UNITS};
 ghost use Rattle.term_store.specs.States.{IsLive, list_at};
@@ -13,7 +13,7 @@ ghost use Rattle.log_checker.specs.Trials.{Reduced};
 ghost use Rattle.log_checker.specs.Fitting.{is_own_part};
 
 use poly_model::{Limit, OwnedPoly, ROW_UNITS};
-use polynomials::{Poly, copy_in, copy_out, initial, prim, tail};
+use polynomials::{Poly, copy_in, copy_out, initial, prim, same, tail};
 use pseudo_div::red_step;
 use std::alloc::{AllocError, Global};
 use term_store::TermStore;
@@ -48,6 +48,47 @@ fn taken_out<S: TermStore>(alloc: Global, s: &mut S, p: Poly) -> Result<OwnedPol
     copied
 }
 
+/// The polynomial of the store is this one.
+fn is_held<S: TermStore>(s: &S, held: Poly, p: &OwnedPoly) -> bool
+    requires { IsPoly (S.state s.now) held }
+    ensures { result ≡ same (polynomial_at (S.state s.now) held) p.now }
+{
+    let (slot, terms) = (held.slot(), p.terms());
+    let count = s.len(slot);
+    if count != terms.len() {
+        return false;
+    }
+    for i in 0..count {
+        if s.get(slot, i) != terms[i] {
+            return false;
+        }
+    }
+    true
+}
+
+/// A copy of the polynomial, whose list is given up: of the one that it is told to be, if it is that.
+fn told_out<S: TermStore>(
+    alloc: Global,
+    s: &mut S,
+    p: Poly,
+    told: Option<&OwnedPoly>,
+) -> Result<OwnedPoly, AllocError>
+    requires { IsPoly (S.state s.old) p }
+    ensures copy { IfOk result (λ q. q ≡ polynomial_at (S.state s.old) p) }
+    ensures given_up { GivenUp (S.state s.old) (S.state s.new) p }
+{
+    match told {
+        None => taken_out(alloc, s, p),
+        Some(told) => {
+            if !is_held(s, p, told) {
+                return taken_out(alloc, s, p);
+            }
+            give_up(s, p);
+            told.copy(alloc)
+        }
+    }
+}
+
 /// The primitive part of the polynomial, whose list is given up.
 fn part_out<S: TermStore>(alloc: Global, s: &mut S, p: Poly) -> Result<OwnedPoly, AllocError>
     requires p { IsPoly (S.state s.old) p }
@@ -62,18 +103,17 @@ fn part_out<S: TermStore>(alloc: Global, s: &mut S, p: Poly) -> Result<OwnedPoly
 }
 
 /// The polynomial is its own primitive part.
-pub fn is_own_part<S: TermStore>(
-    alloc: Global,
-    s: &mut S,
-    p: &OwnedPoly,
-) -> Result<bool, AllocError>
+pub fn is_own_part<S: TermStore>(s: &mut S, p: &OwnedPoly) -> Result<bool, AllocError>
     ensures lists { (S.state s.new).lists ≡ (S.state s.old).lists }
     ensures ok { IfOk result (λ own. own ≡ is_own_part p.now) }
 {
     make_room(s)?;
     let held = copy_in(s, p);
-    let part = part_out(alloc, s, held)?;
-    Ok(*p == part)
+    let (_, part) = prim(s, held);
+    let own = same(s, held, part);
+    give_up(s, part);
+    give_up(s, held);
+    Ok(own)
 }
 
 /// The primitive part of the initial.
@@ -120,6 +160,7 @@ fn reduced_out<S: TermStore>(
     g: Poly,
     f: Poly,
     var: u8,
+    told: Option<&OwnedPoly>,
 ) -> Result<Result<(i128, OwnedPoly), Limit>, AllocError>
     requires g { IsPoly (S.state s.old) g }
     requires f { IsPoly (S.state s.old) f }
@@ -134,19 +175,21 @@ fn reduced_out<S: TermStore>(
     match red_step(s, g, f, var) {
         Err(limit) => Ok(Err(limit)),
         Ok((multiplier, rest)) => {
-            let rest = taken_out(alloc, s, rest)?;
+            let rest = told_out(alloc, s, rest, told)?;
             Ok(Ok((multiplier, rest)))
         }
     }
 }
 
-/// The elementary reduction of g by f in the variable at a place, the greatest of f, or the limit that it meets.
+/// The elementary reduction of g by f in the variable at a place, the greatest of f, or the limit that it meets. It is
+/// told what it may give, which spares work where that is so.
 pub fn reduction<S: TermStore>(
     alloc: Global,
     s: &mut S,
     g: &OwnedPoly,
     f: &OwnedPoly,
     var: u8,
+    told: Option<&OwnedPoly>,
 ) -> Result<Result<(i128, OwnedPoly), Limit>, AllocError>
     requires class { class_of f.now ≡ suc var }
     requires reaches { IsTrue (reaches g.now f.now) }
@@ -156,7 +199,7 @@ pub fn reduction<S: TermStore>(
     make_room(s)?;
     let held = copy_in(s, g);
     let divisor = copy_in(s, f);
-    let out = reduced_out(alloc, s, held, divisor, var);
+    let out = reduced_out(alloc, s, held, divisor, var, told);
     give_up(s, divisor);
     give_up(s, held);
     out

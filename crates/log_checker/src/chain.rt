@@ -44,14 +44,15 @@ fn system_due(system: &System) -> Due
     ensures { IsDue system.now.lists.eqs system.now.cons system.now.done result }
 {
     let eqs = system.lists.eqs.as_slice();
-    next_due(eqs, system.cons.as_slice(), system.done)
+    next_due(eqs, &system.classes, system.cons.as_slice(), system.done)
 }
 
-/// The reduction that is due, if one is.
+/// The reduction that is due, if one is. It is told what it may give.
 fn next_turn<S: TermStore>(
     alloc: Global,
     s: &mut S,
     system: &System,
+    told: Option<&OwnedPoly>,
 ) -> Result<Option<Turn>, AllocError>
     ensures { IfOk result (λ t. IsTurn system.now.lists.eqs system.now.cons system.now.done
         system.now.fuel t) }
@@ -62,7 +63,7 @@ fn next_turn<S: TermStore>(
         Due::Reduce { at, f, var } => {
             let p = &system.cons.as_slice()[at];
             let q = &system.lists.eqs.as_slice()[f - 1];
-            match reduction(alloc, s, p, q, var)? {
+            match reduction(alloc, s, p, q, var, told)? {
                 Err(limit) => Ok(Some(Turn {
                     at,
                     f,
@@ -88,6 +89,7 @@ fn advanced(system: System, at: usize, r: OwnedPoly) -> System
 {
     let System {
         lists,
+        classes,
         cons,
         fuel,
         ..
@@ -97,6 +99,7 @@ fn advanced(system: System, at: usize, r: OwnedPoly) -> System
     cons[at] = r;
     System {
         lists,
+        classes,
         cons: Row::from_vec(cons),
         done: at,
         fuel: fuel.saturating_sub(cost),
@@ -151,7 +154,7 @@ pub fn step_row<S: TermStore>(
     ensures { IfOk result (λ o. inside_views o
         ≡ by_chain (chain_work system) (λ E fuel due. chain_row E fuel told due)) }
 {
-    match next_turn(alloc, s, &system)? {
+    match next_turn(alloc, s, &system, Some(&told.r))? {
         None => Ok(None),
         Some(turn) => Ok(stepped(system, told, turn)),
     }
@@ -210,7 +213,7 @@ pub fn unreduced_row<S: TermStore>(
     ensures { IfOk result (λ o. inside_views o
         ≡ by_chain (chain_work system.now) (λ E fuel due. unreduced_row E fuel k reason f due)) }
 {
-    match next_turn(alloc, s, system)? {
+    match next_turn(alloc, s, system, None)? {
         None => Ok(None),
         Some(turn) => {
             if is_stop(k, f, reason, &turn) {

@@ -121,7 +121,7 @@ impl LineChecker {
             (record (state_of self) { hyps = (state_of self).hyps ++ p ∷ [] })) }
     {
         let mut checker = self;
-        if !is_own_part(checker.alloc, &mut checker.store, &p)? {
+        if !is_own_part(&mut checker.store, &p)? {
             return Ok(None);
         }
         checker.hyps.push(p)?;
@@ -134,7 +134,7 @@ impl LineChecker {
             (record (state_of self) { cons = (state_of self).cons ++ p ∷ [] })) }
     {
         let mut checker = self;
-        if !is_own_part(checker.alloc, &mut checker.store, &p)? {
+        if !is_own_part(&mut checker.store, &p)? {
             return Ok(None);
         }
         checker.cons.push(p)?;

@@ -116,6 +116,7 @@ pub fn at_system<S: TermStore>(
     }
     let System {
         lists,
+        classes,
         cons,
         done,
         fuel,
@@ -126,6 +127,7 @@ pub fn at_system<S: TermStore>(
     };
     Ok(Some(Inside::Solving(System {
         lists,
+        classes,
         cons,
         done,
         fuel,

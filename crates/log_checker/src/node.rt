@@ -1,8 +1,7 @@
 // The rules at a node whose polynomials are owned.
-ghost use Rattle.std.specs.Prelude.{◌≡◌, ◌<◌, ◌+◌, ◌-◌, ◌∷◌, ◌++◌, [], if◌then◌else◌, ℕ, List, Option, Some, None, Result, Ok, Err, IfOk, MatchOption, IsTrue, length, true, false};
+ghost use Rattle.std.specs.Prelude.{◌≡◌, ◌<◌, ◌+◌, suc, ◌-◌, ◌∷◌, ◌++◌, [], if◌then◌else◌, ℕ, List, Option, Some, None, Result, Ok, Err, IfOk, MatchOption, IsTrue, length, true, false};
 ghost use Rattle.poly_model.specs.Polynomial.{Polynomial};
 ghost use Rattle.poly_model.specs.Reduction.{class_of, reaches, is_constant, is_nonzero_constant, has_polynomial, primitive_initial, primitive_tail};
-ghost use Rattle.poly_model.specs.declared.limits.TheConstants.{MOST_VARIABLES};
 ghost use Rattle.proof_steps.specs.Numbers.{item, has, replaced, removed};
 ghost use Rattle.proof_steps.specs.Rules.{sizes, size_of, is_short, after, dropped, has_known_initial, is_valid, limit_of, plus_child, minus_child, minus_fuel, child};
 ghost use Rattle.log_checker.specs.Amounts.{spent};
@@ -49,11 +48,11 @@ pub fn is_known<S: TermStore>(
 
 /// The degree of g reaches that of f in the greatest variable of f, which is at this place.
 pub fn reaches(g: &OwnedPoly, f: &OwnedPoly, var: u8) -> bool
-    requires class { class_of f.now ≡ var + 1 }
-    requires var { var < MOST_VARIABLES }
+    requires { class_of f.now ≡ suc var }
     ensures { result ≡ reaches g.now f.now }
 {
-    degree(f, var) <= degree(g, var)
+    let terms = f.terms();
+    terms[0].exps[var as usize] <= degree(g, var)
 }
 
 /// The node without its i-th equation.

@@ -1,5 +1,5 @@
 // What is read off owned polynomials and lists of them.
-ghost use Rattle.std.specs.Prelude.{◌≡◌, ◌<◌, ◌≤◌, max, length, Option, Some, None, MatchOption, IsTrue, true, false};
+ghost use Rattle.std.specs.Prelude.{◌≡◌, ◌<◌, ◌≤◌, max, length, map, IfOk, Option, Some, None, MatchOption, IsTrue, true, false};
 ghost use Rattle.poly_model.specs.Reduction.{class_of, main_place, main_degree, degree_at, reaches, is_constant, is_zero, is_nonzero_constant, has_polynomial};
 ghost use Rattle.poly_model.specs.declared.limits.TheConstants.{MOST_VARIABLES, MOST_TERMS};
 ghost use Rattle.proof_steps.specs.Numbers.{item, has};
@@ -8,6 +8,7 @@ ghost use Rattle.log_checker.specs.Amounts.{spent};
 
 use poly_model::OwnedPoly;
 use polynomials::greatest;
+use std::alloc::{AllocError, Global};
 
 /// The number of the greatest variable, and 0 of a constant.
 pub fn class_number(p: &OwnedPoly) -> u8
@@ -22,6 +23,17 @@ pub fn class_number(p: &OwnedPoly) -> u8
         None => 0,
         Some(place) => place + 1,
     }
+}
+
+/// The numbers of the greatest variables of these.
+pub fn classes_of(alloc: Global, ps: &[OwnedPoly]) -> Result<Vec<u8>, AllocError>
+    ensures { IfOk result (λ v. v.items ≡ map class_of ps.now) }
+{
+    let mut classes = Vec::new(alloc);
+    for p in ps {
+        classes.push(class_number(p))?;
+    }
+    Ok(classes)
 }
 
 /// The degree in the variable at a place.

@@ -13,7 +13,7 @@ use crate::children::{children, copies};
 use crate::ending::Ending;
 use crate::node::{fuel_beside, with_equation, with_fuel, without};
 use crate::piece::{Inside, Lists, System};
-use crate::reads::{is_number, numbered};
+use crate::reads::{classes_of, is_number, numbered};
 use crate::rules::{Trial, may_drop, try_red, try_split, try_tail};
 use crate::triangular::is_triangular;
 use poly_model::{OwnedPoly, Row};
@@ -52,7 +52,7 @@ pub fn red_row<S: TermStore>(
     ensures { IfOk result (λ o. (version : ℕ) → o
         ≡ where_fits (step_fits version node (step.Red g f m r)) (stepped node (step.Red g f m r))) }
 {
-    let Trial::Gives(found) = try_red(alloc, s, &node, g, f)? else {
+    let Trial::Gives(found) = try_red(alloc, s, &node, g, f, Some(&r))? else {
         return Ok(None);
     };
     if !tells(m, &r, &found) {
@@ -143,7 +143,8 @@ pub fn system_row<S: TermStore>(
     ensures { IfOk result (λ o. inside_views o ≡ system_row cons.now node) }
 {
     let Node { eqs, nes, fuel, .. } = node;
-    if !is_triangular(alloc, s, eqs.as_slice(), nes.as_slice())? {
+    let classes = classes_of(alloc, eqs.as_slice())?;
+    if !is_triangular(alloc, s, eqs.as_slice(), &classes, nes.as_slice())? {
         return Ok(None);
     }
     let left = fuel_beside(eqs.as_slice(), nes.as_slice(), fuel).unwrap_or(0);
@@ -155,6 +156,7 @@ pub fn system_row<S: TermStore>(
             eqs_listed: 0,
             nes_listed: 0,
         },
+        classes,
         cons,
         done: 0,
         fuel: left,

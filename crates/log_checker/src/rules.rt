@@ -59,13 +59,14 @@ fn divisor<S: TermStore>(
     }
 }
 
-/// The reduction of the g-th equation by the f-th.
+/// The reduction of the g-th equation by the f-th, which is told what it may give.
 pub fn try_red<S: TermStore>(
     alloc: Global,
     s: &mut S,
     node: &Node,
     g: u16,
     f: u16,
+    told: Option<&OwnedPoly>,
 ) -> Result<Trial<(i128, OwnedPoly)>, AllocError>
     ensures { IfOk result (λ t. (version : ℕ) → Tries (is_valid version node.now (Red g f))
         (limit_of version node.now (Red g f))
@@ -84,7 +85,7 @@ pub fn try_red<S: TermStore>(
     let Some(var) = divisor(alloc, s, node.nes.as_slice(), p, q)? else {
         return Ok(Trial::Invalid);
     };
-    match reduction(alloc, s, p, q, var)? {
+    match reduction(alloc, s, p, q, var, told)? {
         Ok(result) => Ok(Trial::Gives(result)),
         Err(limit) => Ok(Trial::Stopped(limit.reason())),
     }

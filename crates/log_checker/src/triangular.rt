@@ -1,77 +1,39 @@
 // Triangular systems.
-ghost use Rattle.std.specs.Prelude.{◌≡◌, ◌≢◌, ◌==◌, ◌&&◌, ◌||◌, not, IfOk, false, count_by};
-ghost use Rattle.std.specs.List.{list_all};
+ghost use Rattle.std.specs.Prelude.{◌≡◌, ◌<◌, ◌==◌, ◌&&◌, not, [], IfOk, count_by, get_or, length, map};
 ghost use Rattle.poly_model.specs.Reduction.{class_of, is_constant};
-ghost use Rattle.proof_steps.specs.Rules.{has_known_initial, is_settled, is_triangular};
+ghost use Rattle.proof_steps.specs.Rules.{is_settled, is_triangular};
 
 use crate::node::is_known;
-use crate::reads::class_number;
 use poly_model::OwnedPoly;
 use std::alloc::{AllocError, Global};
 use term_store::TermStore;
 
-/// How many equations have the class.
-fn count(eqs: &[OwnedPoly], x: u8) -> usize
-    ensures { result ≡ count_by (λ p. class_of p == x) eqs.now }
+/// How many of these classes are this one.
+fn count(classes: &[u8], x: u8) -> usize
+    ensures { result ≡ count_by (λ c. c == x) classes.now }
 {
-    eqs.iter().filter(|p| class_number(p) == x).count()
+    classes.iter().filter(|c| **c == x).count()
 }
 
-/// The initials of the equations of a class are known.
-fn all_known<S: TermStore>(
-    alloc: Global,
-    s: &mut S,
-    eqs: &[OwnedPoly],
-    nes: &[OwnedPoly],
-    x: u8,
-) -> Result<bool, AllocError>
-    requires { x ≢ 0 }
-    ensures { IfOk result (λ known. known
-        ≡ list_all (λ p. not (class_of p == x) || has_known_initial nes.now p) eqs.now) }
-{
-    let mut rest = eqs;
-    while let Some((first, after)) = rest.split_first() {
-        if class_number(first) == x && !is_known(alloc, s, nes, first)? {
-            return Ok(false);
-        }
-        rest = after;
-    }
-    Ok(true)
-}
-
-/// The class is settled: exactly one equation has it, and the initial of that one is known.
-fn is_settled<S: TermStore>(
-    alloc: Global,
-    s: &mut S,
-    eqs: &[OwnedPoly],
-    nes: &[OwnedPoly],
-    x: u8,
-) -> Result<bool, AllocError>
-    requires { x ≢ 0 }
-    ensures { IfOk result (λ yes. yes ≡ is_settled eqs.now nes.now x) }
-{
-    if count(eqs, x) != 1 {
-        return Ok(false);
-    }
-    all_known(alloc, s, eqs, nes, x)
-}
-
-/// The polynomial is no constant, and its class is settled.
+/// The equation at a place is no constant, and its class is settled: no other has it, and its initial is known.
 fn stands_alone<S: TermStore>(
     alloc: Global,
     s: &mut S,
     eqs: &[OwnedPoly],
+    classes: &[u8],
     nes: &[OwnedPoly],
-    p: &OwnedPoly,
+    at: usize,
 ) -> Result<bool, AllocError>
-    ensures { IfOk result (λ yes. yes
-        ≡ (not (is_constant p.now) && is_settled eqs.now nes.now (class_of p.now))) }
+    requires classes { classes.now ≡ map class_of eqs.now }
+    requires at { at < length eqs.now }
+    ensures { IfOk result (λ yes. yes ≡ (not (is_constant (get_or eqs.now at []))
+        && is_settled eqs.now nes.now (class_of (get_or eqs.now at [])))) }
 {
-    let x = class_number(p);
-    if x == 0 {
+    let x = classes[at];
+    if x == 0 || count(classes, x) != 1 {
         return Ok(false);
     }
-    is_settled(alloc, s, eqs, nes, x)
+    is_known(alloc, s, nes, &eqs[at])
 }
 
 /// No equation is a constant, and each class that occurs is settled.
@@ -79,16 +41,16 @@ pub fn is_triangular<S: TermStore>(
     alloc: Global,
     s: &mut S,
     eqs: &[OwnedPoly],
+    classes: &[u8],
     nes: &[OwnedPoly],
 ) -> Result<bool, AllocError>
+    requires { classes.now ≡ map class_of eqs.now }
     ensures { IfOk result (λ yes. yes ≡ is_triangular eqs.now nes.now) }
 {
-    let mut rest = eqs;
-    while let Some((first, after)) = rest.split_first() {
-        if !stands_alone(alloc, s, eqs, nes, first)? {
+    for i in 0..eqs.len() {
+        if !stands_alone(alloc, s, eqs, classes, nes, i)? {
             return Ok(false);
         }
-        rest = after;
     }
     Ok(true)
 }

@@ -36,6 +36,10 @@ next_text front bytes held names l e n h =
     ap (λ t. t ++ 10 ∷ []) (e ∙ ap (λ t. text_of [] front ++ t) (h ∙ ap (λ v. line_text v l) n))
     ∙ append_assoc (text_of [] front) (line_text (names_behind [] front) l) (10 ∷ []) ∙ sym (text_snoc [] front l) ∙ sym (append-nil _)
 
+-- where nothing is held
+pub behind_lines : (front : List LogLine) (bytes held text : List ℕ) → bytes ≡ text_of [] front ++ held → held ≡ [] → bytes ++ text ≡ text_of [] front ++ text
+behind_lines front bytes held text e none = ap (λ t. t ++ text) (e ∙ ap (λ h. text_of [] front ++ h) none ∙ append-nil (text_of [] front))
+
 pub begins_with : (front : List LogLine) (bytes held more : List ℕ) (s : Place) → bytes ≡ text_of [] front ++ held → AreLines [] front → run start front ≡ Some s → Begins front (held ++ more) (bytes ++ more)
 begins_with front bytes held more s e lines r = record {
   lines = lines;

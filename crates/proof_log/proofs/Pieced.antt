@@ -1,5 +1,6 @@
 -- A piece of a log that has been fed in part, and the end of a log.
 use Rattle.std.proofs.Common.{◌≡◌, ℕ, ◌+◌, List, [], ◌∷◌, ◌++◌, length, true, false, ◌==◌, nat_eq, refl, sym, ◌∙◌, ap, arith, Some, None, Result, Ok, Err, append_assoc, append-nil, subst, length-append, vec_len, inr, ◌⊎◌}
+use Rattle.std.specs.Prelude.{OnOk, IfErr}
 use Rattle.std.proofs.lemmas.Bool.{eqb-true}
 use Rattle.proof_log.specs.declared.line.LogLine.{LogLine}
 use Rattle.proof_log.specs.declared.place.Part.{Part}
@@ -26,7 +27,7 @@ pub none_yet : (r : LogReader) (lines : List LogLine) (piece : List ℕ) → Sof
 none_yet r lines piece = record { done = []; parts = refl; fed = λ bytes front f. ([], sym (append-nil lines), subst (λ t. Fed t r (bytes ++ [])) (sym (append-nil front)) (subst (λ b. Fed front r b) (sym (append-nil bytes)) f)) }
 
 -- bytes were held
-pub held_more : (old r q : LogReader) (old_lines lines : List LogLine) (piece rest front behind : List ℕ) → Sofar old old_lines piece rest r lines → rest ≡ front ++ behind
+held_more : (old r q : LogReader) (old_lines lines : List LogLine) (piece rest front behind : List ℕ) → Sofar old old_lines piece rest r lines → rest ≡ front ++ behind
     → ((bytes : List ℕ) (ls : List LogLine) → Fed ls r bytes → Fed ls q (bytes ++ front)) → Sofar old old_lines piece behind q lines
 held_more old r q old_lines lines piece rest front behind s e more = record {
   done = s.done ++ front;
@@ -35,17 +36,21 @@ held_more old r q old_lines lines piece rest front behind s e more = record {
 }
 
 -- a line was ended
-pub line_more : (old r q : LogReader) (old_lines lines new : List LogLine) (piece after : List ℕ) → Sofar old old_lines piece (10 ∷ after) r lines
-    → ((bytes : List ℕ) (ls : List LogLine) → Fed ls r bytes → (l : LogLine) × (new ≡ lines ++ l ∷ []) × Fed (ls ++ l ∷ []) q (bytes ++ 10 ∷ [])) → Sofar old old_lines piece after q new
-line_more old r q old_lines lines new piece after s more = record {
-  done = s.done ++ 10 ∷ [];
-  parts = s.parts ∙ sym (append_assoc s.done (10 ∷ []) after);
+through : (front after done : List ℕ) → done ++ (front ++ 10 ∷ after) ≡ (done ++ (front ++ 10 ∷ [])) ++ after
+through front after done = ap (λ t. done ++ t) (sym (append_assoc front (10 ∷ []) after)) ∙ sym (append_assoc done (front ++ 10 ∷ []) after)
+
+pub line_more : (old r q : LogReader) (old_lines lines new : List LogLine) (piece front after : List ℕ) → Sofar old old_lines piece (front ++ 10 ∷ after) r lines
+    → ((bytes : List ℕ) (ls : List LogLine) → Fed ls r bytes → (l : LogLine) × (new ≡ lines ++ l ∷ []) × Fed (ls ++ l ∷ []) q (bytes ++ (front ++ 10 ∷ []))) → Sofar old old_lines piece after q new
+line_more old r q old_lines lines new piece front after s more = record {
+  done = s.done ++ (front ++ 10 ∷ []);
+  parts = s.parts ∙ through front after s.done;
   fed = λ bytes ls f.
       let g = s.fed bytes ls f in
       let h = more (bytes ++ s.done) (ls ++ g.0) g.2 in (
         g.0 ++ h.0 ∷ [],
         h.1 ∙ ap (λ t. t ++ h.0 ∷ []) g.1 ∙ append_assoc old_lines g.0 (h.0 ∷ []),
-        subst (λ t. Fed t q (bytes ++ (s.done ++ 10 ∷ []))) (append_assoc ls g.0 (h.0 ∷ [])) (subst (λ b. Fed ((ls ++ g.0) ++ h.0 ∷ []) q b) (append_assoc bytes s.done (10 ∷ [])) h.2),
+        subst (λ t. Fed t q (bytes ++ (s.done ++ (front ++ 10 ∷ [])))) (append_assoc ls g.0 (h.0 ∷ []))
+            (subst (λ b. Fed ((ls ++ g.0) ++ h.0 ∷ []) q b) (append_assoc bytes s.done (front ++ 10 ∷ [])) h.2),
       );
 }
 
@@ -58,30 +63,36 @@ going old front bytes e f = subst (λ o. FedWith o front old bytes) e f
 pub starved : (front : List LogLine) (r : LogReader) (bytes more : List ℕ) → Fed front r bytes → Starved front (bytes ++ more)
 starved front r bytes more f = (r.held.items ++ more, begins_with front bytes r.held.items more r.place f.text f.lines f.place)
 
-pub all_fed : (u : Unit {0}) (old r : LogReader) (old_lines lines : List LogLine) (piece rest : List ℕ) → old.fault ≡ None → rest ≡ [] → Sofar old old_lines piece rest r lines → Goal (Ok u) old old_lines piece r lines
+all_fed : (u : Unit {0}) (old r : LogReader) (old_lines lines : List LogLine) (piece rest : List ℕ) → old.fault ≡ None → rest ≡ [] → Sofar old old_lines piece rest r lines → Goal (Ok u) old old_lines piece r lines
 all_fed u old r old_lines lines piece rest e none s bytes front f =
     let g = s.fed bytes front (going old front bytes e f) in
     (g.0, g.1, subst (λ t. Fed (front ++ g.0) r (bytes ++ t)) (sym (s.parts ∙ ap (λ t. s.done ++ t) none ∙ append-nil s.done)) g.2)
 
-pub no_memory : (x : LogFault) (old r q : LogReader) (old_lines lines : List LogLine) (piece rest : List ℕ) → old.fault ≡ None → Sofar old old_lines piece rest r lines → x ≡ fault.OutOfMemory → q.fault ≡ Some fault.OutOfMemory
+no_memory : (x : LogFault) (old r q : LogReader) (old_lines lines : List LogLine) (piece rest : List ℕ) → old.fault ≡ None → Sofar old old_lines piece rest r lines → x ≡ fault.OutOfMemory → q.fault ≡ Some fault.OutOfMemory
     → Goal (Err x) old old_lines piece q lines
 no_memory x old r q old_lines lines piece rest e s isx isq bytes front f =
     let g = s.fed bytes front (going old front bytes e f) in
     let b = subst (Starved (front ++ g.0)) (append_assoc bytes s.done rest ∙ ap (λ t. bytes ++ t) (sym s.parts)) (starved (front ++ g.0) r (bytes ++ s.done) rest g.2) in
     (g.0, g.1, (isq ∙ ap Some (sym isx), subst (λ o. FedWith o (front ++ g.0) q (bytes ++ piece)) (sym isq) b))
 
+-- the last bytes were held, or there was no memory for them
+pub held_last : (o : Result (Unit {0}) LogFault) (old r q : LogReader) (old_lines lines : List LogLine) (piece rest front behind : List ℕ) → old.fault ≡ None → behind ≡ [] → rest ≡ front ++ behind → Sofar old old_lines piece rest r lines
+    → OnOk o ((bytes : List ℕ) (ls : List LogLine) → Fed ls r bytes → Fed ls q (bytes ++ front)) → IfErr o (λ x. (x ≡ fault.OutOfMemory) × (q.fault ≡ Some fault.OutOfMemory)) → Goal o old old_lines piece q lines
+held_last (Ok u) old r q old_lines lines piece rest front behind e none k s more err = all_fed u old q old_lines lines piece behind e none (held_more old r q old_lines lines piece rest front behind s k more)
+held_last (Err x) old r q old_lines lines piece rest front behind e none k s more err = no_memory x old r q old_lines lines piece rest e s err.0 err.1
+
 further : (y : LogFault) (front : List LogLine) (r : LogReader) (bytes more : List ℕ) → FedWith (Some y) front r bytes → FedWith (Some y) front r (bytes ++ more)
 further (fault.Malformed n) front r bytes more s = record { refuses = refuses_more front bytes more s.refuses; number = s.number }
 further fault.OutOfMemory front r bytes more s = (s.0 ++ more, begins_more front s.0 bytes more s.1)
 
-pub line_fault : (x : LogFault) (old r q : LogReader) (old_lines lines new : List LogLine) (piece after : List ℕ) → old.fault ≡ None → Sofar old old_lines piece (10 ∷ after) r lines
-    → ((bytes : List ℕ) (ls : List LogLine) → Fed ls r bytes → Ended (Err x) lines new ls q (bytes ++ 10 ∷ [])) → Goal (Err x) old old_lines piece q new
-line_fault x old r q old_lines lines new piece after e s more bytes front f =
+pub line_fault : (x : LogFault) (old r q : LogReader) (old_lines lines new : List LogLine) (piece text after : List ℕ) → old.fault ≡ None → Sofar old old_lines piece (text ++ 10 ∷ after) r lines
+    → ((bytes : List ℕ) (ls : List LogLine) → Fed ls r bytes → Ended (Err x) lines new ls q (bytes ++ (text ++ 10 ∷ []))) → Goal (Err x) old old_lines piece q new
+line_fault x old r q old_lines lines new piece text after e s more bytes front f =
     let g = s.fed bytes front (going old front bytes e f) in
     let h = more (bytes ++ s.done) (front ++ g.0) g.2 in
-    let k = further x (front ++ g.0) q ((bytes ++ s.done) ++ 10 ∷ []) after h.2 in
-    let whole : ((bytes ++ s.done) ++ 10 ∷ []) ++ after ≡ bytes ++ piece =
-    append_assoc (bytes ++ s.done) (10 ∷ []) after ∙ append_assoc bytes s.done (10 ∷ after) ∙ ap (λ t. bytes ++ t) (sym s.parts) in
+    let k = further x (front ++ g.0) q ((bytes ++ s.done) ++ (text ++ 10 ∷ [])) after h.2 in
+    let whole : ((bytes ++ s.done) ++ (text ++ 10 ∷ [])) ++ after ≡ bytes ++ piece =
+    sym (through text after (bytes ++ s.done)) ∙ append_assoc bytes s.done (text ++ 10 ∷ after) ∙ ap (λ t. bytes ++ t) (sym s.parts) in
     (g.0, h.0 ∙ g.1, (h.1, subst (λ o. FedWith o (front ++ g.0) q (bytes ++ piece)) (sym h.1) (subst (λ b. FedWith (Some x) (front ++ g.0) q b) whole k)))
 
 -- a reader that has stopped
@@ -135,14 +146,13 @@ ends_early r front bytes e some f =
 pub lf_first : (behind after : List ℕ) (b : ℕ) → EndsAt 10 behind → behind ≡ b ∷ after → behind ≡ 10 ∷ after
 lf_first behind after b ends e = e ∙ ap (λ c. c ∷ after) (subst (EndsAt 10) e ends)
 
-pub count_more : (fed0 fed1 fed2 start piece : ℕ) (rest front behind after : List ℕ) (b : ℕ) → rest ≡ front ++ behind → behind ≡ b ∷ after → fed1 ≡ fed0 + length front → fed2 ≡ fed1 + 1 → fed0 + length rest ≡ start + piece
-    → fed2 + length after ≡ start + piece
-count_more fed0 fed1 fed2 start piece rest front behind after b e k f g h =
+pub count_more : (fed0 fed1 start piece : ℕ) (rest front behind after : List ℕ) (b : ℕ) → rest ≡ front ++ behind → behind ≡ b ∷ after → fed1 ≡ fed0 + length front + 1 → fed0 + length rest ≡ start + piece
+    → fed1 + length after ≡ start + piece
+count_more fed0 fed1 start piece rest front behind after b e k f h =
     let l = ap length e ∙ ap (λ t. length (front ++ t)) k ∙ length-append front (b ∷ after) in
-    omega (arith, l, f, g, h)
+    omega (arith, l, f, h)
 
--- a line was held up to its end
-pub held_to_lf : (old r q : LogReader) (old_lines lines : List LogLine) (piece rest front behind after : List ℕ) (b : ℕ) → rest ≡ front ++ behind → EndsAt 10 behind → behind ≡ b ∷ after → Sofar old old_lines piece rest r lines
-    → ((bytes : List ℕ) (ls : List LogLine) → Fed ls r bytes → Fed ls q (bytes ++ front)) → Sofar old old_lines piece (10 ∷ after) q lines
-held_to_lf old r q old_lines lines piece rest front behind after b e ends is s more =
-    subst (λ t. Sofar old old_lines piece t q lines) (lf_first behind after b ends is) (held_more old r q old_lines lines piece rest front behind s e more)
+-- a line stands first
+pub to_lf : (old r : LogReader) (old_lines lines : List LogLine) (piece rest front behind after : List ℕ) (b : ℕ) → rest ≡ front ++ behind → EndsAt 10 behind → behind ≡ b ∷ after → Sofar old old_lines piece rest r lines
+    → Sofar old old_lines piece (front ++ 10 ∷ after) r lines
+to_lf old r old_lines lines piece rest front behind after b e ends is s = subst (λ t. Sofar old old_lines piece t r lines) (e ∙ ap (λ t. front ++ t) (lf_first behind after b ends is)) s

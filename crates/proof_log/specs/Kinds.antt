@@ -50,8 +50,9 @@ AreAt [] (f ∷ fs) = ⊥
 AreAt (k ∷ ks) [] = ⊥
 AreAt (k ∷ ks) (f ∷ fs) = IsAt k f × AreAt ks fs
 
+-- All words, those of most lines first.
 abbrev pub words : List LineWord
-words = word.Head ∷ word.Proves ∷ word.Prove ∷ word.Vars ∷ word.Hyp ∷ word.Con ∷ word.Node ∷ word.Drop ∷ word.Red ∷ word.Tail ∷ word.Split ∷ word.Close ∷ word.Clash ∷ word.System ∷ word.Step ∷ word.Proved ∷ word.Remainder ∷ word.Unreduced ∷ word.Open ∷ word.Eq ∷ word.Ne ∷ word.Verdict ∷ word.End ∷ []
+words = word.Red ∷ word.Step ∷ word.Eq ∷ word.Hyp ∷ word.Ne ∷ word.Tail ∷ word.Split ∷ word.Node ∷ word.Drop ∷ word.Close ∷ word.Clash ∷ word.System ∷ word.Proved ∷ word.Con ∷ word.Vars ∷ word.Remainder ∷ word.Unreduced ∷ word.Open ∷ word.Prove ∷ word.Verdict ∷ word.Proves ∷ word.Head ∷ word.End ∷ []
 
 abbrev pub field_kinds : LineWord → List FieldKind
 field_kinds word.Head = kind.Version ∷ []

@@ -15,32 +15,33 @@ use poly_model::{OwnedPoly, Vars};
 use proof_steps::ChainStep;
 use std::alloc::Global;
 
+/// All words, those of most lines first.
 fn all_words() -> &'static [LineWord]
     ensures { result.now ≡ words }
 {
     &[
-        LineWord::Head,
-        LineWord::Proves,
-        LineWord::Prove,
-        LineWord::Vars,
-        LineWord::Hyp,
-        LineWord::Con,
-        LineWord::Node,
-        LineWord::Drop,
         LineWord::Red,
+        LineWord::Step,
+        LineWord::Eq,
+        LineWord::Hyp,
+        LineWord::Ne,
         LineWord::Tail,
         LineWord::Split,
+        LineWord::Node,
+        LineWord::Drop,
         LineWord::Close,
         LineWord::Clash,
         LineWord::System,
-        LineWord::Step,
         LineWord::Proved,
+        LineWord::Con,
+        LineWord::Vars,
         LineWord::Remainder,
         LineWord::Unreduced,
         LineWord::Open,
-        LineWord::Eq,
-        LineWord::Ne,
+        LineWord::Prove,
         LineWord::Verdict,
+        LineWord::Proves,
+        LineWord::Head,
         LineWord::End,
     ]
 }

@@ -6,13 +6,14 @@ ghost use Rattle.proof_log.specs.declared.fault.LineFault.{LineFault};
 ghost use Rattle.proof_log.specs.declared.line.LogLine.{LogLine};
 ghost use Rattle.proof_log.specs.declared.reader.LogFault.{LogFault};
 
-use crate::cut::cut;
+use crate::cut::cut_line;
 use crate::fault::LineFault;
 use crate::line::LogLine;
 use crate::line_reading::read_line;
 use crate::place::{Place, goes, is_done, start};
 use poly_model::{MOST_VARIABLES, Vars};
 use std::alloc::{AllocError, Global};
+use std::mem;
 use thiserror::Error;
 
 /// Why a log is not read on.
@@ -71,17 +72,17 @@ impl LogReader {
         })
     }
 
-    /// The line that the held bytes are, and the place behind it.
-    fn held_line(&self) -> Result<(LogLine, Place), LineFault>
+    /// The line that a text is, without its LF, and the place behind it.
+    fn line_of(&self, text: &[u8]) -> Result<(LogLine, Place), LineFault>
         ensures reads { IfOk result (λ x. IsLine self.now.vars x.0
-            × (self.now.held.items ≡ line_text self.now.vars x.0)
+            × (text.now ≡ line_text self.now.vars x.0)
             × (goes self.now.place x.0 ≡ Some x.1)) }
         ensures refuses { IsErrOf result LineFault.Malformed → (l : LogLine)
-            → IsLine self.now.vars l → self.now.held.items ≡ line_text self.now.vars l
+            → IsLine self.now.vars l → text.now ≡ line_text self.now.vars l
             → goes self.now.place l ≡ None }
     {
         prove!(self.vars.len() <= MOST_VARIABLES);
-        match read_line(self.alloc, &self.held, &self.vars) {
+        match read_line(self.alloc, text, &self.vars) {
             Ok(line) => match goes(self.place, &line) {
                 Some(place) => Ok((line, place)),
                 None => Err(LineFault::Malformed),
@@ -90,15 +91,17 @@ impl LogReader {
         }
     }
 
-    /// The held bytes are a whole line.
-    fn end_line(&mut self, lines: &mut Vec<LogLine>) -> Result<(), LogFault>
-        requires { self.old.fed < 2 ^ 30 }
+    /// A whole line, where no bytes are held.
+    fn end_line(&mut self, text: &[u8], lines: &mut Vec<LogLine>) -> Result<(), LogFault>
+        requires few { self.old.fed < 2 ^ 30 }
+        requires empty { self.old.held.items ≡ [] }
         ensures fed { self.new.fed ≡ self.old.fed + 1 }
         ensures line { (bytes : List ℕ) (front : List LogLine) → Fed front self.old bytes
-            → Ended result lines.old.items lines.new.items front self.new (bytes ++ 10 ∷ []) }
+            → IsUnended text.now → Ended result lines.old.items lines.new.items front self.new
+            (bytes ++ (text.now ++ 10 ∷ [])) }
     {
         self.fed += 1;
-        match self.held_line() {
+        match self.line_of(text) {
             Ok((line, place)) => {
                 let vars = names_after(self.vars, &line);
                 let Ok(()) = lines.push(line) else {
@@ -108,7 +111,6 @@ impl LogReader {
                 self.vars = vars;
                 self.place = place;
                 self.lines += 1;
-                self.held.clear();
                 Ok(())
             }
             Err(LineFault::Malformed) => {
@@ -142,6 +144,28 @@ impl LogReader {
         Ok(())
     }
 
+    /// The held bytes and these are a whole line.
+    fn take_line(&mut self, front: &[u8], lines: &mut Vec<LogLine>) -> Result<(), LogFault>
+        requires few { self.old.fed + length front.now < 2 ^ 30 }
+        requires unended { IsUnended front.now }
+        ensures within { self.new.fed ≤ self.old.fed + length front.now + 1 }
+        ensures fed { OnOk result (self.new.fed ≡ self.old.fed + length front.now + 1) }
+        ensures line { (bytes : List ℕ) (ls : List LogLine) → Fed ls self.old bytes
+            → Ended result lines.old.items lines.new.items ls self.new
+            (bytes ++ (front.now ++ 10 ∷ [])) }
+    {
+        if self.held.is_empty() {
+            self.fed += front.len() as u32;
+            return self.end_line(front, lines);
+        }
+        match self.hold(front) {
+            Ok(()) => {}
+            Err(fault) => return Err(fault),
+        }
+        let held = mem::replace(&mut self.held, Vec::new(self.alloc));
+        self.end_line(&held, lines)
+    }
+
     /// Takes the next piece of the log, and adds the lines that are whole now. A refusal is answered again by each later
     /// call.
     pub fn feed(&mut self, piece: &[u8], lines: &mut Vec<LogLine>) -> Result<(), LogFault>
@@ -159,15 +183,11 @@ impl LogReader {
         }
         let mut rest = piece;
         loop {
-            let (front, behind) = cut(b'\n', rest);
-            match self.hold(front) {
-                Ok(()) => {}
-                Err(fault) => return Err(fault),
-            }
+            let (front, behind) = cut_line(rest);
             let Some((_, after)) = behind.split_first() else {
-                return Ok(());
+                return self.hold(front);
             };
-            match self.end_line(lines) {
+            match self.take_line(front, lines) {
                 Ok(()) => {}
                 Err(fault) => return Err(fault),
             }

@@ -1,23 +1,26 @@
-use Rattle.std.proofs.Common.{◌+◌, sym, ◌∙◌, ap, refl, subst, arith, ◌∷◌, [], ◌++◌, length-append, Err}
-use Rattle.proof_log.specs.Grammar.{IsUnended}
+use Rattle.std.proofs.Common.{◌+◌, sym, ◌∙◌, ap, refl, subst, arith, ◌∷◌, [], ◌++◌, length-append, append_assoc, Err}
+use Rattle.proof_log.specs.Grammar.{Refuses}
 use Rattle.proof_log.specs.Text.{names_after, text_of, IsLine}
-use Rattle.proof_log.proofs.Held.{next_text, refuses_line, names_snoc, lines_snoc}
+use Rattle.proof_log.proofs.Held.{behind_lines, next_text, refuses_line, names_snoc, lines_snoc}
 use Rattle.proof_log.proofs.Logs.{run_snoc}
 use Rattle.proof_log.proofs.Pieced.{starved}
 use Rattle.proof_log.proofs.reader.LogReader.end_line.Goals as goal
 
 pub returns-in_default-clause-line : goal.returns-in_default-clause-line
-returns-in_default-clause-line c bytes front fed = (c.in_default.ensures.items, refl, starved front c.args.self.now bytes (10 ∷ []) fed)
+returns-in_default-clause-line c bytes front fed unended = (c.in_default.ensures.items, refl, starved front c.args.self.now bytes (c.args.text.now ++ 10 ∷ []) fed)
 
 pub returns-in-Ok-push-clause-line : goal.returns-in-Ok-push-clause-line
-returns-in-Ok-push-clause-line c bytes front fed =
+returns-in-Ok-push-clause-line c bytes front fed unended =
     let l = c.in-Ok.line in
-    let r = c.in-Ok.ensures.reads in (
+    let r = c.in-Ok.ensures.reads in
+    let whole = behind_lines front bytes c.args.self.now.held.items c.args.text.now fed.text c.requires.empty in (
       l,
       c.in-Ok-push.ensures.items,
       record {
-        text = next_text front bytes c.args.self.now.held.items c.args.self.now.vars l fed.text fed.names r.1 ∙ ap (λ t. text_of [] (front ++ l ∷ []) ++ t) (sym c.clear.ensures.items);
-        unended = subst IsUnended (sym c.clear.ensures.items) tt;
+        text = sym (append_assoc bytes c.args.text.now (10 ∷ []))
+            ∙ next_text front (bytes ++ c.args.text.now) c.args.text.now c.args.self.now.vars l whole fed.names r.1
+            ∙ ap (λ t. text_of [] (front ++ l ∷ []) ++ t) (sym c.requires.empty);
+        unended = fed.unended;
         lines = lines_snoc [] front l fed.lines (subst (λ v. IsLine v l) fed.names r.0);
         place = run_snoc c.args.self.now.place c.in-Ok.place front l fed.place r.2;
         names = c.names_after-vars.ensures ∙ ap (λ v. names_after v l) fed.names ∙ sym (names_snoc [] front l);
@@ -27,14 +30,17 @@ returns-in-Ok-push-clause-line c bytes front fed =
     )
 
 pub returns-in-Err-Malformed-clause-line : goal.returns-in-Err-Malformed-clause-line
-returns-in-Err-Malformed-clause-line c bytes front fed = (
-  refl,
-  refl,
-  record {
-    refuses = refuses_line front bytes c.args.self.now.held.items c.args.self.now.vars c.args.self.now.place fed.text fed.names fed.unended fed.lines fed.place (c.in-Err-Malformed.ensures.refuses (ap Err c.in-Err-Malformed.field-0-is));
-    number = ap (λ n. n + 1) fed.count;
-  },
-)
+returns-in-Err-Malformed-clause-line c bytes front fed unended =
+    let whole = behind_lines front bytes c.args.self.now.held.items c.args.text.now fed.text c.requires.empty in (
+      refl,
+      refl,
+      record {
+        refuses = subst (Refuses front) (append_assoc bytes c.args.text.now (10 ∷ []))
+            (refuses_line front (bytes ++ c.args.text.now) c.args.text.now c.args.self.now.vars c.args.self.now.place whole fed.names unended fed.lines fed.place
+            (c.in-Err-Malformed.ensures.refuses (ap Err c.in-Err-Malformed.field-0-is)));
+        number = ap (λ n. n + 1) fed.count;
+      },
+    )
 
 pub returns-in-Err-OutOfMemory-clause-line : goal.returns-in-Err-OutOfMemory-clause-line
-returns-in-Err-OutOfMemory-clause-line c bytes front fed = (refl, refl, starved front c.args.self.now bytes (10 ∷ []) fed)
+returns-in-Err-OutOfMemory-clause-line c bytes front fed unended = (refl, refl, starved front c.args.self.now bytes (c.args.text.now ++ 10 ∷ []) fed)
