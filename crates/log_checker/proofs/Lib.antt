@@ -1,3 +1,4 @@
+pub mod Reducing
 mod Stores
 mod Terms
 mod Nodes

@@ -1,6 +1,6 @@
 -- The equation that reduces a polynomial, where each equation has a class of its own.
-use Rattle.std.proofs.Common.{◌≡◌, ℕ, ◌+◌, ◌-◌, ◌<◌, ◌≤◌, zero, suc, List, [], ◌∷◌, length, get_or, refl, sym, ◌∙◌, ap, arith, Bool, true, false, ◌&&◌, ◌||◌, not, map, max, drop}
-use Rattle.std.specs.Prelude.{◌≢◌, ◌==◌, unwrap_or, if◌then◌else◌, count_by, Result, Ok, Err, IfOk}
+use Rattle.std.proofs.Common.{◌≡◌, ℕ, ◌+◌, ◌-◌, ◌<◌, ◌≤◌, zero, suc, List, [], ◌∷◌, length, get_or, refl, sym, ◌∙◌, ap, arith, Bool, true, false, ◌&&◌, not}
+use Rattle.std.specs.Prelude.{◌==◌, unwrap_or, if◌then◌else◌, count_by}
 use Rattle.std.proofs.lemmas.Bool.{eqb-true, eq-eqb, and_parts}
 use Rattle.std.proofs.lemmas.List.Sums.{sum_by-cons}
 use Rattle.poly_model.specs.Polynomial.{Polynomial}
@@ -8,9 +8,7 @@ use Rattle.poly_model.specs.Reduction.{class_of, is_constant, reaches}
 use Rattle.proof_steps.specs.Numbers.{item}
 use Rattle.proof_steps.specs.Classes.{HaveOwnClasses}
 use Rattle.proof_steps.specs.Chain.{reducing_class, first_of_class}
-use Rattle.std.specs.List.{list_all}
-use Rattle.std.proofs.Math.ListN.{get_or-map}
-use Rattle.proof_steps.specs.Rules.{has_known_initial, is_settled, is_triangular}
+use Rattle.proof_steps.specs.Rules.{is_settled, is_triangular}
 use Rattle.proof_steps.proofs.Search as search
 use Rattle.proof_steps.proofs.Search.{first_from-found, greatest-attained}
 
@@ -43,10 +41,10 @@ reducer E p x own e = at (greatest-attained (λ f. if reaches p f then class_of 
         }
 
 -- ---- in a triangular system each equation has a class of its own
-count-next : (x : ℕ) (p : Polynomial) (ps : List Polynomial) → count_by (λ q. class_of q == x) (p ∷ ps) ≡ (if class_of p == x then 1 else 0) + count_by (λ q. class_of q == x) ps
+pub count-next : (x : ℕ) (p : Polynomial) (ps : List Polynomial) → count_by (λ q. class_of q == x) (p ∷ ps) ≡ (if class_of p == x then 1 else 0) + count_by (λ q. class_of q == x) ps
 count-next x p ps = sum_by-cons (λ q. if class_of q == x then 1 else 0) p ps
 
-count-some : (x : ℕ) (ps : List Polynomial) (j : ℕ) → j < length ps → class_of (get_or ps j []) ≡ x → 1 ≤ count_by (λ p. class_of p == x) ps
+pub count-some : (x : ℕ) (ps : List Polynomial) (j : ℕ) → j < length ps → class_of (get_or ps j []) ≡ x → 1 ≤ count_by (λ p. class_of p == x) ps
 count-some x [] j h e = absurd (omega arith)
 count-some x (p ∷ ps) zero h e = let one = ap {B = ℕ} (λ b. if b then 1 else 0) (eq-eqb (class_of p) x e) in let k = count-next x p ps in omega (arith, one, k)
 count-some x (p ∷ ps) (suc j) h e = let more = count-some x ps j (omega arith) e in let k = count-next x p ps in omega (arith, more, k)
@@ -60,79 +58,8 @@ only-one x (p ∷ ps) (suc i) zero hi hj ei ej c =
     absurd (let one = ap {B = ℕ} (λ b. if b then 1 else 0) (eq-eqb (class_of p) x ej) in let more = count-some x ps i (omega arith) ei in let k = count-next x p ps in omega (arith, one, more, c, k))
 only-one x (p ∷ ps) (suc i) (suc j) hi hj ei ej c = ap suc (only-one x ps i j (omega arith) (omega arith) ei ej (let k = count-next x p ps in omega (arith, c, k)))
 
-and-true : (a : Bool) → (a && true) ≡ a
-and-true true = refl
-and-true false = refl
-
 pub own-classes : (E N : List Polynomial) → is_triangular E N ≡ true → HaveOwnClasses E
 own-classes E N t i j hi hj same =
     let settled = (and_parts _ (is_settled E N (class_of (get_or E i []))) (search.all-at (λ p. not (is_constant p) && is_settled E N (class_of p)) E i hi t)).1 in
     let one = eqb-true (count_by (λ p. class_of p == class_of (get_or E i [])) E) 1 (and_parts _ _ settled).0 in
     only-one (class_of (get_or E i [])) E i j hi hj refl (sym same) (omega (arith, one))
-
--- ---- by the classes of the equations
-pub class-at : (E : List Polynomial) (classes : List ℕ) (i : ℕ) → classes ≡ map class_of E → get_or classes i 0 ≡ class_of (get_or E i [])
-class-at E classes i e = ap (λ xs. get_or xs i 0) e ∙ get_or-map class_of E i []
-
-pub count-classes : (x : ℕ) (E : List Polynomial) → count_by (λ c. c == x) (map class_of E) ≡ count_by (λ p. class_of p == x) E
-count-classes x [] = refl
-count-classes x (p ∷ E) =
-    sum_by-cons (λ c. if c == x then 1 else 0) (class_of p) (map class_of E) ∙ ap (λ n. (if class_of p == x then 1 else 0) + n) (count-classes x E) ∙ sym (count-next x p E)
-
--- where no equation has the class, and where one at a place has it alone
-no-class : (x : ℕ) (known : Polynomial → Bool) (E : List Polynomial) → count_by (λ p. class_of p == x) E ≡ 0 → list_all (λ p. not (class_of p == x) || known p) E ≡ true
-no-class x known [] c = refl
-no-class x known (p ∷ E) c =
-    elim (class_of p == x) as (λ b. (class_of p == x) ≡ b → ((not b || known p) && list_all (λ q. not (class_of q == x) || known q) E) ≡ true) [
-      | true ↦ λ e. absurd (let one = ap {B = ℕ} (λ b. if b then 1 else 0) e in let k = count-next x p E in omega (arith, one, k, c))
-      | false ↦ λ e. no-class x known E (let k = count-next x p E in omega (arith, k, c))
-    ] refl
-
-alone : (x : ℕ) (known : Polynomial → Bool) (E : List Polynomial) (i : ℕ) → i < length E → class_of (get_or E i []) ≡ x → count_by (λ p. class_of p == x) E ≡ 1
-    → list_all (λ p. not (class_of p == x) || known p) E ≡ known (get_or E i [])
-alone x known [] i h e c = absurd (omega arith)
-alone x known (p ∷ E) zero h e c =
-    let here = eq-eqb (class_of p) x e in
-    let one = ap {B = ℕ} (λ b. if b then 1 else 0) here in
-    let rest = no-class x known E (let k = count-next x p E in omega (arith, one, k, c)) in
-    (λ j. (not (here j) || known p) && rest j) ∙ and-true (known p)
-alone x known (p ∷ E) (suc i) h e c =
-    let some = count-some x E i (omega arith) e in
-    elim (class_of p == x) as (λ b. (class_of p == x) ≡ b → ((not b || known p) && list_all (λ q. not (class_of q == x) || known q) E) ≡ known (get_or E i [])) [
-      | true ↦ λ t. absurd (let one = ap {B = ℕ} (λ b. if b then 1 else 0) t in let k = count-next x p E in omega (arith, one, k, c, some))
-      | false ↦ λ t. alone x known E i (omega arith) e (let zero = ap {B = ℕ} (λ b. if b then 1 else 0) t in let k = count-next x p E in omega (arith, k, c))
-    ] refl
-
--- a class that one equation has is settled where its initial is known
-pub settled-alone : (E N : List Polynomial) (i : ℕ) → i < length E → (count_by (λ p. class_of p == class_of (get_or E i [])) E == 1) ≡ true
-    → is_settled E N (class_of (get_or E i [])) ≡ has_known_initial N (get_or E i [])
-settled-alone E N i h one = ap (λ b. b && list_all (λ p. not (class_of p == class_of (get_or E i [])) || has_known_initial N p) E) one
-    ∙ alone (class_of (get_or E i [])) (has_known_initial N) E i h refl (eqb-true _ 1 one)
-
-not-constant : (p : Polynomial) → class_of p ≢ 0 → not (is_constant p) ≡ true
-not-constant p n = elim (class_of p == 0) as (λ b. (class_of p == 0) ≡ b → not b ≡ true) [ true ↦ λ e. absurd (n (eqb-true (class_of p) 0 e)) | false ↦ λ e. refl ] refl
-
-pub stands-alone : (E N : List Polynomial) (classes : List ℕ) (i n : ℕ) (f : Polynomial) → classes ≡ map class_of E → i < length E → f ≡ get_or E i [] → get_or classes i 0 ≢ 0 → n ≡ count_by (λ c. c == get_or classes i 0) classes → n ≡ 1
-    → has_known_initial N f ≡ (not (is_constant (get_or E i [])) && is_settled E N (class_of (get_or E i [])))
-stands-alone E N classes i n f e h at some c one =
-    let x = class-at E classes i e in
-    let single : count_by (λ p. class_of p == class_of (get_or E i [])) E ≡ 1 = sym (count-classes (class_of (get_or E i [])) E) ∙ sym (c ∙ (λ j. count_by (λ k. k == x j) (e j))) ∙ one in
-    ap (has_known_initial N) at ∙ sym (settled-alone E N i h (eq-eqb _ 1 single))
-    ∙ sym (ap (λ b. b && is_settled E N (class_of (get_or E i []))) (not-constant (get_or E i []) (λ z. some (x ∙ z))))
-
-pub known-so : {A E : Type 0} (o : Result A E) (a b : A) → a ≡ b → IfOk o (λ k. k ≡ a) → IfOk o (λ k. k ≡ b)
-known-so (Ok k) a b e h = h ∙ e
-known-so (Err x) a b e h = h
-
--- ---- the greatest class, from behind
-pub reducing-next : (E : List Polynomial) (p : Polynomial) (i greatest : ℕ) → i < length E → greatest ≡ max (if reaches p (get_or E i []) then class_of (get_or E i []) else 0) (reducing_class (drop (i + 1) E) p)
-    → greatest ≡ reducing_class (drop i E) p
-reducing-next [] p i greatest h e = absurd (omega (arith, h))
-reducing-next (f ∷ E) p zero greatest h e = e
-reducing-next (f ∷ E) p (suc i) greatest h e =
-    let next : suc i + 1 ≡ suc (i + 1) = omega arith in
-    reducing-next E p i greatest (omega (arith, h)) (e ∙ ap (λ k. max (if reaches p (get_or E i []) then class_of (get_or E i []) else 0) (reducing_class (drop k (f ∷ E)) p)) next)
-
-pub reducing-end : (E : List Polynomial) (p : Polynomial) → reducing_class (drop (length E) E) p ≡ 0
-reducing-end [] p = refl
-reducing-end (f ∷ E) p = reducing-end E p
