@@ -50,7 +50,8 @@ fn reducing_class(eqs: &[OwnedPoly], classes: &[u8], p: &OwnedPoly) -> u8
 
 /// The number of the first equation of a class, and 0 where there is none.
 fn first_of_class(classes: &[u8], x: u8) -> usize
-    ensures place { (E : List Polynomial) → classes.now ≡ map class_of E → result ≡ first_of_class E x }
+    ensures place { (E : List Polynomial) → classes.now ≡ map class_of E
+        → result ≡ first_of_class E x }
     ensures within { result ≤ length classes.now }
 {
     for i in 0..classes.len() {
