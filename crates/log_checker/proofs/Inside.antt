@@ -27,6 +27,7 @@ use Rattle.proof_log.specs.Lines.{step_line, status_line, list_lines, outcome_li
 use Rattle.log_checker.specs.Accepted.{with_ending, EndsSo}
 use Rattle.log_checker.specs.Fitting.{Work, At, Chaining, Ended, Inside, listed, where_fits, step_row, chain_row, proved_row, remainder_row, unreduced_row, in_piece, read, end_of}
 use Rattle.poly_model.specs.Equality.{same-is, same-self}
+use Rattle.proof_steps.proofs.Dropped.{drop-get, drop-set, drop-more}
 use Rattle.proof_steps.proofs.Following.{fits}
 
 -- ---- reading on
@@ -130,28 +131,6 @@ lists_read version cons {X} w K k (p ∷ ps) (q ∷ qs) ns ms =
     ]
 
 -- ---- chains
--- where a list goes on from a place
-drop-get : (n : ℕ) (ps : List Polynomial) (p : Polynomial) (rest : List Polynomial) → drop n ps ≡ p ∷ rest → get_or ps n [] ≡ p
-drop-get zero [] p rest e = cc
-drop-get zero (q ∷ ps) p rest e = cc
-drop-get (suc n) [] p rest e = cc
-drop-get (suc n) (q ∷ ps) p rest e = drop-get n ps p rest e
-
-drop-set : (n : ℕ) (ps : List Polynomial) (p r : Polynomial) (rest : List Polynomial) → drop n ps ≡ p ∷ rest → drop n (set ps n r) ≡ r ∷ rest
-drop-set zero [] p r rest e = cc
-drop-set zero (q ∷ ps) p r rest e = ap (λ l. r ∷ l) (tail e)
-  where
-    tail : q ∷ ps ≡ p ∷ rest → ps ≡ rest
-    tail h = cc
-drop-set (suc n) [] p r rest e = cc
-drop-set (suc n) (q ∷ ps) p r rest e = drop-set n ps p r rest e
-
-drop-more : (n : ℕ) (ps : List Polynomial) (p : Polynomial) (rest : List Polynomial) → drop n ps ≡ p ∷ rest → drop (suc n) ps ≡ rest
-drop-more zero [] p rest e = cc
-drop-more zero (q ∷ ps) p rest e = cc
-drop-more (suc n) [] p rest e = cc
-drop-more (suc n) (q ∷ ps) p rest e = drop-more n ps p rest e
-
 -- what is due stands among the conclusions
 abbrev Stands : ℕ → List Polynomial → Due → Type 0
 Stands base ps chain.AllZero = Unit {0}

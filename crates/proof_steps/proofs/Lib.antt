@@ -4,3 +4,4 @@ pub mod Paths
 pub mod Search
 pub mod Reducing
 pub mod Following
+pub mod Dropped

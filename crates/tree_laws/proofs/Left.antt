@@ -23,29 +23,8 @@ use Rattle.proof_steps.specs.declared.piece.Outcome.TheVariants as outcome
 use Rattle.proof_steps.specs.declared.piece.Piece.{Piece}
 use Rattle.proof_steps.specs.declared.step.Attempt.TheVariants as attempt
 use Rattle.tree_laws.specs.Growth.{TreesTellWhatIsLeft}
+use Rattle.proof_steps.proofs.Dropped.{drop-get, drop-set, drop-more}
 use Rattle.proof_steps.proofs.Following.{same_list-is, fits, first-of}
-
--- ---- where a list goes on from a place
-drop-get : (n : ℕ) (ps : List Polynomial) (p : Polynomial) (rest : List Polynomial) → drop n ps ≡ p ∷ rest → get_or ps n [] ≡ p
-drop-get zero [] p rest e = cc
-drop-get zero (q ∷ ps) p rest e = cc
-drop-get (suc n) [] p rest e = cc
-drop-get (suc n) (q ∷ ps) p rest e = drop-get n ps p rest e
-
-drop-set : (n : ℕ) (ps : List Polynomial) (p r : Polynomial) (rest : List Polynomial) → drop n ps ≡ p ∷ rest → drop n (set ps n r) ≡ r ∷ rest
-drop-set zero [] p r rest e = cc
-drop-set zero (q ∷ ps) p r rest e = ap (λ l. r ∷ l) (tail e)
-  where
-    tail : q ∷ ps ≡ p ∷ rest → ps ≡ rest
-    tail h = cc
-drop-set (suc n) [] p r rest e = cc
-drop-set (suc n) (q ∷ ps) p r rest e = drop-set n ps p r rest e
-
-drop-more : (n : ℕ) (ps : List Polynomial) (p : Polynomial) (rest : List Polynomial) → drop n ps ≡ p ∷ rest → drop (suc n) ps ≡ rest
-drop-more zero [] p rest e = cc
-drop-more zero (q ∷ ps) p rest e = cc
-drop-more (suc n) [] p rest e = cc
-drop-more (suc n) (q ∷ ps) p rest e = drop-more n ps p rest e
 
 -- ---- what is due is the front of the conclusions from some number on
 abbrev IsFront : List Polynomial → Due → Type 0
