@@ -1,5 +1,5 @@
 -- Texts in turn.
-use Rattle.std.proofs.Common.{◌≡◌, ◌⊎◌, inl, inr, ℕ, zero, suc, ◌+◌, ◌<◌, List, [], ◌∷◌, ◌++◌, refl, sym, ap, ◌∙◌, arith, append_assoc, append-nil, subst, Option}
+use Rattle.std.proofs.Common.{◌≡◌, ◌⊎◌, inl, inr, ℕ, zero, suc, ◌+◌, ◌<◌, List, [], ◌++◌, refl, sym, ap, ◌∙◌, arith, append_assoc, append-nil, subst, Option}
 use Rattle.desk_io.specs.Bytes.{Grew}
 use Rattle.desk_io.proofs.Growth.{Grew-none}
 use Rattle.latex_out.specs.Latex.{in_turn}

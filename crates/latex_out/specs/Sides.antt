@@ -1,5 +1,5 @@
 -- Where a name stands beside its spot, and which of its corners stands there.
-use Rattle.std.specs.Prelude.{ℕ, List, codes, [], ℤ, pos, neg_ℤ, ◌+ℤ◌}
+use Rattle.std.specs.Prelude.{ℕ, List, codes, [], pos, neg_ℤ, ◌+ℤ◌}
 use Rattle.fixed_point.specs.declared.spot.Spot.{Spot}
 use Rattle.gcl_reader.specs.declared.word.Side.{Side}
 use Rattle.gcl_reader.specs.declared.word.Side.TheVariants as side

@@ -1,16 +1,14 @@
 -- The ends of a part are one pair of places, and are rounded to one pair of spots.
-use Rattle.std.proofs.Common.{rules, ◌≡◌, ◌⊎◌, inl, inr, ℕ, zero, suc, List, [], ◌∷◌, refl, sym, ap, ◌∙◌, arith}
+use Rattle.std.proofs.Common.{◌≡◌, inl, inr, ℕ, zero, suc, [], ◌∷◌, refl, sym, arith}
 use Rattle.std.specs.Prelude.{ℤ, pos, negsuc, ◌+ℤ◌, ◌-ℤ◌, ◌*ℤ◌, neg_ℤ, ◌<ℤ◌, ◌≤ℤ◌}
 use Rattle.std.proofs.lemmas.Int.{ints}
 use Rattle.edge_num.specs.Numbers.{nearest, IsNearest}
 use Rattle.edge_num.proofs.Nearest.{nearest_is_near, nearest_is_one}
 use Rattle.poly_model.specs.Integers.{integers_ring}
-use Rattle.poly_model.specs.Solve.{Expression, Var, Num, Add, Mul, Neg, solve}
+use Rattle.poly_model.specs.Solve.{Var, Num, Add, Mul, solve}
 use Rattle.circle_cut.specs.declared.exact.Exact.{Exact}
 use Rattle.circle_cut.specs.Places.{rounded}
-use Rattle.line_clip.specs.declared.part.Area.{Area}
-use Rattle.line_clip.specs.declared.part.Line.{Line}
-use Rattle.line_clip.specs.Part.{IsBefore, IsSame, NotAfter, HasEnds}
+use Rattle.line_clip.specs.Part.{IsSame, NotAfter}
 use Rattle.line_clip.specs.Ends.{EndsAreOne}
 use Rattle.line_clip.proofs.Falling.{nonneg, positive, less}
 

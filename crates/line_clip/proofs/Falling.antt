@@ -1,14 +1,13 @@
 -- The part of a falling line.
-use Rattle.std.proofs.Common.{rules, ◌≡◌, ◌≢◌, ◌⊎◌, inl, inr, ℕ, zero, suc, Bool, true, false, List, [], ◌∷◌, Option, Some, None, refl, sym, ap, subst, ◌∙◌, arith, cond}
+use Rattle.std.proofs.Common.{◌≡◌, ◌⊎◌, inl, inr, zero, suc, Bool, true, false, List, [], ◌∷◌, Option, Some, None, refl, sym, ap, ◌∙◌, arith, cond}
 use Rattle.std.specs.Prelude.{ℤ, pos, negsuc, ◌+ℤ◌, ◌-ℤ◌, ◌*ℤ◌, neg_ℤ, ◌<ℤ◌, ◌≤ℤ◌, int_lt, int_le, ◌&&◌}
 use Rattle.std.proofs.lemmas.Int.{ints}
-use Rattle.poly_model.specs.Domain.{integers}
 use Rattle.poly_model.specs.Integers.{integers_ring}
 use Rattle.poly_model.specs.Solve.{Expression, Var, Zero, Add, Mul, Neg, solve}
 use Rattle.circle_cut.specs.declared.exact.Exact.{Exact}
 use Rattle.line_clip.specs.declared.part.Area.{Area}
 use Rattle.line_clip.specs.declared.part.Line.{Line}
-use Rattle.line_clip.specs.Part.{IsOn, IsIn, IsCommon, IsBefore, IsSame, NotAfter, HasEnds, IsPoint, IsPart}
+use Rattle.line_clip.specs.Part.{IsCommon, IsSame, IsPoint}
 use Rattle.line_clip.specs.Ends.{ends_if, falling, falling_first, falling_last}
 
 -- ---- order of whole numbers

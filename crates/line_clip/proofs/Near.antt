@@ -1,8 +1,7 @@
 -- The ends of a part are rounded to spots in the area.
-use Rattle.std.proofs.Common.{◌≡◌, ◌+◌, ◌≤◌, ℕ, Option, Some, None, sym, subst, arith}
+use Rattle.std.proofs.Common.{◌≤◌, Option, Some, None, arith}
 use Rattle.std.specs.Prelude.{ℤ, pos, ◌<ℤ◌, ◌≤ℤ◌, ◌*ℤ◌, unsigned_abs, IfSome}
 use Rattle.std.proofs.lemmas.Int.{ints}
-use Rattle.fixed_point.specs.declared.spot.Spot.{Spot}
 use Rattle.edge_num.specs.Numbers.{nearest}
 use Rattle.circle_cut.specs.declared.exact.Exact.{Exact}
 use Rattle.circle_cut.specs.Places.{rounded}
@@ -10,7 +9,7 @@ use Rattle.circle_cut.specs.Sizes.{IsNear}
 use Rattle.edge_num.proofs.Rounding.{nearest-most, nearest-least}
 use Rattle.line_clip.specs.declared.part.Area.{Area}
 use Rattle.line_clip.specs.declared.part.Line.{Line}
-use Rattle.line_clip.specs.Part.{IsIn, IsCommon, IsPart}
+use Rattle.line_clip.specs.Part.{IsCommon, IsPart}
 use Rattle.line_clip.specs.Ends.{line_part}
 use Rattle.line_clip.specs.Sizes.{IsArea, IsLine, AreNear}
 use Rattle.fixed_point.specs.declared.limits.TheConstants.{MOST_TICKS}

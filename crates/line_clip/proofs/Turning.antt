@@ -1,17 +1,17 @@
 -- The part of any line: level and upright lines, falling lines, and the others by turning them over.
-use Rattle.std.proofs.Common.{rules, ◌≡◌, ◌≢◌, ◌⊎◌, inl, inr, ℕ, zero, suc, Bool, true, false, List, [], ◌∷◌, Option, Some, None, refl, sym, ap, subst, ◌∙◌, arith, cond}
+use Rattle.std.proofs.Common.{◌≡◌, ◌≢◌, ◌⊎◌, inl, inr, zero, suc, Bool, true, false, [], ◌∷◌, Option, Some, None, refl, sym, ap, subst, arith, cond}
 use Rattle.std.specs.Prelude.{ℤ, pos, negsuc, ◌+ℤ◌, ◌-ℤ◌, ◌*ℤ◌, neg_ℤ, ◌<ℤ◌, ◌≤ℤ◌, int_lt, int_le, ◌&&◌}
 use Rattle.std.specs.Ordering.{int_eq}
 use Rattle.std.proofs.lemmas.Int.{ints}
 use Rattle.std.proofs.lemmas.Bool.Decides.{Decides-int_eq, not_from_Decides}
 use Rattle.poly_model.specs.Integers.{integers_ring}
-use Rattle.poly_model.specs.Solve.{Expression, Var, Zero, Add, Mul, Neg, solve}
+use Rattle.poly_model.specs.Solve.{Var, Zero, Add, Mul, Neg, solve}
 use Rattle.circle_cut.specs.declared.exact.Exact.{Exact}
 use Rattle.line_clip.specs.declared.part.Area.{Area}
 use Rattle.line_clip.specs.declared.part.Line.{Line}
-use Rattle.line_clip.specs.Part.{IsOn, IsIn, IsCommon, IsBefore, IsSame, NotAfter, HasEnds, IsPoint, IsPart}
+use Rattle.line_clip.specs.Part.{IsIn, IsCommon, IsSame, NotAfter, IsPart}
 use Rattle.line_clip.specs.Ends.{ends_if, upright, level, falling, mirrored_place, mirrored, sloped, line_part, LinePartIsThePart}
-use Rattle.line_clip.proofs.Falling.{nonneg, positive, zero-or, off, lt-by, eq-by, times-zero, gap, neg-times, less, line, up-to, le-true, le-false, lt-true, lt-false, IsLeft, NotRight, Sloping, HasSides, IsFallingPart, Touches, Crosses, falling-part}
+use Rattle.line_clip.proofs.Falling.{nonneg, positive, zero-or, off, lt-by, eq-by, times-zero, gap, neg-times, less, line, up-to, le-true, le-false, lt-true, lt-false, NotRight, Sloping, IsFallingPart, Touches, Crosses, falling-part}
 
 -- ---- lines with the same places
 

@@ -1,8 +1,5 @@
 -- The part of a line in an area: the places that the two have in common.
-use Rattle.std.specs.Prelude.{◌≡◌, ◌≢◌, ◌⊎◌, ◌↔◌, Bool, ℤ, pos, ◌+ℤ◌, ◌-ℤ◌, ◌*ℤ◌, neg_ℤ, ◌<ℤ◌, ◌≤ℤ◌, int_lt, int_le, if◌then◌else◌, ◌&&◌, Option, Some, None}
-use Rattle.std.specs.Ordering.{int_eq}
-use Rattle.fixed_point.specs.declared.spot.Spot.{Spot}
-use Rattle.circle_cut.specs.Places.{rounded}
+use Rattle.std.specs.Prelude.{◌≡◌, ◌⊎◌, pos, ◌+ℤ◌, ◌*ℤ◌, ◌<ℤ◌, ◌≤ℤ◌, Option, Some, None}
 use Rattle.circle_cut.specs.declared.exact.Exact.{Exact}
 use Rattle.line_clip.specs.declared.part.Area.{Area}
 use Rattle.line_clip.specs.declared.part.Line.{Line}

@@ -2,7 +2,7 @@
 use Rattle.fixed_point.specs.declared.limits.TheConstants.{MOST_TICKS}
 use Rattle.circle_cut.specs.declared.limits.TheConstants.{MOST_NORMAL, MOST_PLACE}
 use Rattle.line_clip.specs.declared.part.TheConstants.{MOST_END}
-use Rattle.std.specs.Prelude.{ℕ, ◌≤◌, ◌*◌, ℤ, pos, ◌<ℤ◌, ◌≤ℤ◌, unsigned_abs, ◌≡◌, ◌⊎◌, ◌≢◌}
+use Rattle.std.specs.Prelude.{◌≤◌, ◌*◌, ℤ, pos, ◌<ℤ◌, unsigned_abs, ◌⊎◌, ◌≢◌}
 use Rattle.line_clip.specs.declared.part.Area.{Area}
 use Rattle.line_clip.specs.declared.part.Line.{Line}
 use Rattle.circle_cut.specs.declared.exact.Exact.{Exact}

@@ -1,6 +1,6 @@
 -- A line that a construction makes is one.
-use Rattle.std.proofs.Common.{◌≡◌, ◌≢◌, ◌⊎◌, inl, inr, ℕ, zero, suc, refl, arith, ◌*◌, ◌^◌, ◌≤◌}
-use Rattle.std.specs.Prelude.{ℤ, pos, negsuc, ◌*ℤ◌, ◌+ℤ◌, ◌<ℤ◌, unsigned_abs}
+use Rattle.std.proofs.Common.{◌≢◌, ◌⊎◌, inl, inr, zero, suc, arith}
+use Rattle.std.specs.Prelude.{ℤ, pos, negsuc, ◌*ℤ◌, ◌+ℤ◌, ◌<ℤ◌}
 use Rattle.std.proofs.lemmas.Int.{ints}
 use Rattle.fixed_point.specs.declared.curve.LineEq.{LineEq}
 use Rattle.circle_cut.specs.Vectors.{sq, dot}

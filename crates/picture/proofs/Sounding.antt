@@ -1,5 +1,5 @@
 -- What a sound program draws is placed.
-use Rattle.std.proofs.Common.{◌≡◌, ◌≤◌, ◌<◌, ◌+◌, ◌-◌, ℕ, zero, suc, List, [], ◌∷◌, length, get_or, rules, refl, sym, ◌∙◌, ap, subst, arith, Result, Ok, Err, IsTrue, Bool, true, false}
+use Rattle.std.proofs.Common.{◌≡◌, ◌<◌, ℕ, zero, suc, List, [], ◌∷◌, length, get_or, rules, sym, ◌∙◌, ap, subst, arith, Ok, IsTrue, Bool, true, false}
 use Rattle.std.specs.Prelude.{ℤ, pos, ◌≤ℤ◌, int_le, ◌&&◌}
 use Rattle.fixed_point.specs.Ticks.{ticks_of}
 use Rattle.fixed_point.specs.declared.limits.TheConstants.{MOST_TICKS}

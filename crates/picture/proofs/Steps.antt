@@ -1,5 +1,5 @@
 -- Steps over a list of acts.
-use Rattle.std.proofs.Common.{◌≡◌, ◌≤◌, ◌<◌, ◌+◌, ◌∙◌, ℕ, List, [], ◌∷◌, length, get_or, drop, refl, sym, ap, arith, add-one, drop-cons}
+use Rattle.std.proofs.Common.{◌≡◌, ◌≤◌, ◌<◌, ◌+◌, ◌∙◌, ℕ, List, length, get_or, drop, sym, ap}
 use Rattle.std.proofs.lemmas.List.{drop_all}
 use Rattle.gcl_names.specs.declared.program.Act.{Act}
 use Rattle.construct.specs.Placing.{Positions}

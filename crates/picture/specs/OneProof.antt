@@ -1,11 +1,10 @@
 -- That a picture can be written has one proof at most, so that a struct can hold it.
-use Rattle.std.specs.Prelude.{ℕ, All, List}
+use Rattle.std.specs.Prelude.{ℕ}
 use Rattle.std.proofs.Props.{props}
-use Rattle.picture.specs.declared.shape.Ink.{Ink}
 use Rattle.picture.specs.declared.shape.Picture.{Picture}
 use Rattle.picture.specs.declared.shape.Shape.{Shape}
 use Rattle.picture.specs.declared.shape.Shape.TheVariants as shape
-use Rattle.picture.specs.Shapes.{IsNearby, IsNamed, IsWritten, IsDrawable}
+use Rattle.picture.specs.Shapes.{IsNearby, IsNamed, IsDrawable}
 
 nearby-prop : (s : Shape) → IsProp (IsNearby s)
 nearby-prop (shape.Segment a b) = hlevel props

@@ -1,5 +1,5 @@
 -- Which pictures can be written.
-use Rattle.std.specs.Prelude.{ℕ, ◌≤◌, ◌<◌, ℤ, pos, ◌≤ℤ◌, unsigned_abs, All}
+use Rattle.std.specs.Prelude.{ℕ, ◌<◌, ℤ, pos, ◌≤ℤ◌, All}
 use Rattle.fixed_point.specs.declared.limits.TheConstants.{MOST_TICKS}
 use Rattle.circle_cut.specs.declared.limits.TheConstants.{MOST_NORMAL}
 use Rattle.circle_cut.specs.Sizes.{IsNear}

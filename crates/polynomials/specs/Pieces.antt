@@ -1,5 +1,5 @@
 -- What becomes of each entry of a polynomial where its list is copied with a change.
-use Rattle.std.specs.Prelude.{ℕ, ◌+◌, ◌==◌, List, [], ◌∷◌, ◌++◌, Bool, cond, ◌&&◌, nat_lt, nat_le, length, get_or, set, neg_ℤ, Option, Some, None}
+use Rattle.std.specs.Prelude.{ℕ, ◌+◌, ◌==◌, [], ◌∷◌, ◌++◌, Bool, cond, ◌&&◌, nat_lt, nat_le, length, get_or, set, neg_ℤ, Option, Some, None}
 use Rattle.poly_model.specs.Polynomial.{Entry, Polynomial}
 use Rattle.poly_model.specs.Content.{signed_by, quotient_of}
 use Rattle.poly_model.specs.Standard.{entry_of, is_bounded}

@@ -1,12 +1,11 @@
 -- A division that goes one step further.
 use Rattle.std.proofs.Common.{◌≡◌, ℕ, ◌+◌, ◌-◌, ◌≤◌, suc, refl, List, [], ◌∷◌, ◌++◌, length, length-append, sym, ◌∙◌, ap, subst, arith, IsTrue, true}
-use Rattle.std.specs.Prelude.{ℤ, Result, Ok}
+use Rattle.std.specs.Prelude.{ℤ, Ok}
 use Rattle.poly_model.specs.Polynomial.{Polynomial}
 use Rattle.poly_model.specs.Standard.{is_standard}
-use Rattle.poly_model.specs.Reduction.{reaches, reduction_of}
+use Rattle.poly_model.specs.Reduction.{reaches}
 use Rattle.poly_model.specs.Bounded.{bounded_reduction}
 use Rattle.poly_model.specs.Division.{division_of}
-use Rattle.poly_model.specs.declared.limits.Limit.{Limit}
 use Rattle.poly_model.specs.declared.limits.TheConstants.{MOST_VARIABLES}
 use Rattle.poly_model.proofs.Within.{within-of}
 use Rattle.poly_model.proofs.Reductions.{bounded_reduction-is}

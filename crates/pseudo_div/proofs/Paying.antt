@@ -1,7 +1,6 @@
 -- What a step meets, by its cost.
-use Rattle.std.proofs.Common.{◌≡◌, ℕ, ◌+◌, ◌≤◌, length, sym, ◌∙◌, ap, true, false, nat_le}
-use Rattle.std.specs.Prelude.{ℤ, Option, Some, None, Result, Ok, Err}
-use Rattle.std.proofs.lemmas.Bool.{le-leb}
+use Rattle.std.proofs.Common.{◌≡◌, ℕ, ◌≤◌, ◌∙◌, ap, true, false, nat_le}
+use Rattle.std.specs.Prelude.{ℤ, Option, Some, None, Result, Ok}
 use Rattle.std.proofs.lemmas.Bool.Decides.{nat_tests}
 use Rattle.std.proofs.Common.{arith}
 use Rattle.poly_model.specs.Polynomial.{Polynomial}

@@ -1,12 +1,12 @@
 -- The parts of an elementary reduction.
-use Rattle.std.proofs.Common.{◌≡◌, ℕ, ◌+◌, ◌-◌, ◌<◌, ◌≤◌, suc, refl, [], sym, ◌∙◌, ap, subst, arith, true, false, ◌&&◌, IsTrue}
+use Rattle.std.proofs.Common.{◌≡◌, ℕ, ◌+◌, ◌-◌, ◌<◌, ◌≤◌, suc, refl, [], sym, ◌∙◌, ap, subst, arith, true, false, IsTrue}
 use Rattle.std.specs.Prelude.{ℤ, Result, Ok, Err, nat_le}
 use Rattle.std.specs.Cmp.Derive.{both_true}
 use Rattle.std.proofs.lemmas.Bool.{leb-true, le-leb}
 use Rattle.std.proofs.lemmas.Bool.Decides.{nat_tests}
 use Rattle.poly_model.specs.Polynomial.{Polynomial}
 use Rattle.poly_model.specs.Standard.{is_standard}
-use Rattle.poly_model.specs.Reduction.{class_of, main_place, main_degree, degree_at, coefficient_at, shifted, reaches, factor_of, parts_of}
+use Rattle.poly_model.specs.Reduction.{class_of, main_place, main_degree, degree_at, coefficient_at, shifted, reaches, factor_of}
 use Rattle.poly_model.specs.Bounded.{degrees_fit, bounded_rows, bounded_difference, bounded_product, bounded_shift, and_then, bounded_cross}
 use Rattle.poly_model.specs.declared.limits.Limit.{Limit}
 use Rattle.poly_model.specs.declared.limits.Limit.TheVariants.{Degree}
@@ -15,7 +15,7 @@ use Rattle.poly_model.proofs.Within.{within-of}
 use Rattle.poly_model.proofs.Standards.{degree-low}
 use Rattle.poly_model.proofs.Classes.{degree-coefficient}
 use Rattle.term_store.specs.States.{State, IsLive}
-use Rattle.term_store.specs.Changes.{Makes, Keeps}
+use Rattle.term_store.specs.Changes.{Makes}
 use Rattle.term_store.proofs.Making as making
 use Rattle.polynomials.specs.declared.poly.Poly.{Poly}
 use Rattle.polynomials.specs.Held.{Gives, slot_of}

@@ -1,5 +1,5 @@
 -- The steps of a pseudo-division, paid from fuel, and why it stops.
-use Rattle.std.specs.Prelude.{◌≡◌, ℕ, ◌+◌, ◌-◌, ◌≤◌, ℤ, List, [], ◌∷◌, length, Bool, true, false, IsTrue, nat_le, Option, Some, None, Result, Ok, Err}
+use Rattle.std.specs.Prelude.{◌≡◌, ℕ, ◌+◌, ◌-◌, ◌≤◌, ℤ, List, [], ◌∷◌, length, true, false, IsTrue, nat_le, Option, Some, None, Result, Ok, Err}
 use Rattle.poly_model.specs.Polynomial.{Polynomial}
 use Rattle.poly_model.specs.Reduction.{reaches}
 use Rattle.poly_model.specs.Bounded.{bounded_reduction}

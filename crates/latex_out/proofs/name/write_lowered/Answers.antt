@@ -2,7 +2,7 @@ use Rattle.std.proofs.Common.{◌++◌, List, ℕ, codes, append_assoc, refl}
 use Rattle.std.specs.List.{flat_map}
 use Rattle.desk_io.proofs.Growth.{Grew-then}
 use Rattle.desk_io.proofs.Writing.{first_failed, next_failed, last_writes}
-use Rattle.latex_out.specs.Latex.{lower_text, opened_text}
+use Rattle.latex_out.specs.Latex.{lower_text}
 use Rattle.latex_out.proofs.name.write_lowered.Goals as goal
 
 pub returns-in_err-write_opened-clause-bytes : goal.returns-in_err-write_opened-clause-bytes

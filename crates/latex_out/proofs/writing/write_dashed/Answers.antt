@@ -1,4 +1,4 @@
-use Rattle.std.proofs.Common.{◌≡◌, ◌+◌, ◌<◌, ℕ, List, refl, sym, ap, ◌∙◌, arith}
+use Rattle.std.proofs.Common.{◌≡◌, ◌+◌, ℕ, List, sym, ap, ◌∙◌, arith}
 use Rattle.fixed_point.specs.declared.spot.Spot.{Spot}
 use Rattle.desk_io.proofs.Growth.{Grew-more}
 use Rattle.desk_io.proofs.Writing.{next_failed}

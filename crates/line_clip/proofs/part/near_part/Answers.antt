@@ -1,4 +1,4 @@
-use Rattle.std.proofs.Common.{◌≡◌, sym, subst}
+use Rattle.std.proofs.Common.{sym, subst}
 use Rattle.std.specs.Prelude.{IfSome}
 use Rattle.line_clip.specs.Sizes.{AreNear}
 use Rattle.line_clip.proofs.Near.{ends_near}

@@ -1,6 +1,5 @@
-use Rattle.std.proofs.Common.{rules, ◌≡◌, sym, subst}
+use Rattle.std.proofs.Common.{rules, sym, subst}
 use Rattle.line_clip.specs.Sizes.{IsLine}
-use Rattle.picture.specs.Drawing.{line_of}
 use Rattle.picture.proofs.Lines.{is_line}
 use Rattle.picture.proofs.drawing.line_of.Goals as goal
 

@@ -1,4 +1,4 @@
-use Rattle.std.proofs.Common.{◌≡◌, ◌<◌, ◌≤◌, ◌∙◌, ℕ, get_or, length, List, ap, sym, subst, arith}
+use Rattle.std.proofs.Common.{◌≡◌, ◌<◌, ◌∙◌, ℕ, get_or, length, List, ap, sym, subst, arith}
 use Rattle.construct.specs.Spots.{positions_of}
 use Rattle.gcl_names.specs.declared.program.Act.{Act}
 use Rattle.picture.specs.Drawing.{Sketch, blank, drawn_from}

@@ -1,7 +1,5 @@
-use Rattle.std.proofs.Common.{◌≡◌, ◌++◌, ◌∷◌, [], ◌+◌, ◌≤◌, length, length-append, drop, get_or, sym, ◌∙◌, ap, subst, arith}
-use Rattle.std.specs.Prelude.{Some, None}
-use Rattle.poly_model.specs.Polynomial.{Polynomial}
-use Rattle.poly_model.specs.Standard.{entry_of, polynomial_of}
+use Rattle.std.proofs.Common.{◌++◌, ◌∷◌, [], ◌+◌, length, length-append, drop, sym, ◌∙◌, ap, subst, arith}
+use Rattle.poly_model.specs.Standard.{polynomial_of}
 use Rattle.term_store.specs.States.{State, list_at}
 use Rattle.term_store.specs.Changes.{Makes}
 use Rattle.term_store.proofs.Making as making

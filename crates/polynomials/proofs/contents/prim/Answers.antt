@@ -1,12 +1,11 @@
-use Rattle.std.proofs.Common.{◌≡◌, ◌+◌, length, [], sym, ◌∙◌, ap, arith, refl}
-use Rattle.poly_model.specs.Content.{primitive_part, entries_divided, coefficients_gcd}
+use Rattle.std.proofs.Common.{◌≡◌, [], sym, ◌∙◌, ap, arith}
+use Rattle.poly_model.specs.Content.{primitive_part, entries_divided}
 use Rattle.poly_model.specs.Standard.{polynomial_of}
-use Rattle.poly_model.specs.declared.limits.TheConstants.{MOST_VARIABLES, MOST_SIZE}
+use Rattle.poly_model.specs.declared.limits.TheConstants.{MOST_VARIABLES}
 use Rattle.poly_model.proofs.Within.{within-of, standard-of}
 use Rattle.poly_model.proofs.Standards.{primitive-within}
 use Rattle.term_store.specs.States.{list_at}
 use Rattle.term_store.proofs.Making as making
-use Rattle.polynomials.specs.Held.{polynomial_at}
 use Rattle.polynomials.proofs.Outcomes as outcomes
 use Rattle.polynomials.proofs.Reading as reading
 use Rattle.polynomials.proofs.PieceLaws.{all-divisible, pieces-divided}

@@ -1,4 +1,4 @@
-use Rattle.std.proofs.Common.{◌≡◌, ◌++◌, ◌∷◌, [], ◌+◌, drop, get_or, sym, ◌∙◌, ap, arith, append_assoc}
+use Rattle.std.proofs.Common.{◌++◌, ◌∷◌, [], ◌+◌, drop, get_or, sym, ◌∙◌, ap, arith, append_assoc}
 use Rattle.std.specs.Prelude.{pos}
 use Rattle.poly_model.specs.declared.term.Term.{Term}
 use Rattle.term_store.specs.States.{list_at}

@@ -1,4 +1,4 @@
-use Rattle.std.proofs.Common.{◌∙◌, ap, sym}
+use Rattle.std.proofs.Common.{◌∙◌}
 use Rattle.poly_model.specs.Reduction.{without_degree, tail_of}
 use Rattle.poly_model.proofs.Within.{within-of, standard-of}
 use Rattle.poly_model.proofs.Standards.{tail-within}

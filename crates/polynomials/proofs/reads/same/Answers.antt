@@ -1,6 +1,4 @@
-use Rattle.std.proofs.Common.{true, false, not, ◌≡◌, ◌≢◌, sym, ◌∙◌, ap, arith}
-use Rattle.poly_model.specs.Reduction.{same}
-use Rattle.poly_model.specs.Standard.{polynomial_of}
+use Rattle.std.proofs.Common.{true, false, not, ◌≡◌, sym, ◌∙◌, ap, arith}
 use Rattle.poly_model.proofs.Same.{term_decides}
 use Rattle.term_store.specs.States.{list_at}
 use Rattle.polynomials.proofs.Reading as reading

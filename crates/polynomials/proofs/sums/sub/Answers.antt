@@ -1,9 +1,9 @@
 use Rattle.std.specs.Prelude.{Ok, Err}
-use Rattle.std.proofs.Common.{◌≡◌, ◌≤◌, length, sym, ◌∙◌, ap, subst, arith}
-use Rattle.poly_model.specs.Polynomial.{IsDescending, poly_negative}
+use Rattle.std.proofs.Common.{length, sym, ◌∙◌, ap, subst, arith}
+use Rattle.poly_model.specs.Polynomial.{IsDescending}
 use Rattle.poly_model.specs.Standard.{are_bounded, polynomial_of}
 use Rattle.poly_model.specs.Bounded.{bounded_sum, bounded_difference}
-use Rattle.poly_model.specs.declared.limits.TheConstants.{MOST_VARIABLES, MOST_TERMS}
+use Rattle.poly_model.specs.declared.limits.TheConstants.{MOST_VARIABLES}
 use Rattle.poly_model.proofs.Within.{within-of}
 use Rattle.poly_model.proofs.Standards.{negative-within, bounded_difference-standard}
 use Rattle.term_store.specs.States.{list_at}

@@ -1,12 +1,11 @@
-use Rattle.std.proofs.Common.{◌≡◌, ◌+◌, ◌-◌, ◌<◌, ◌≤◌, suc, refl, [], ◌∷◌, ◌++◌, length, sym, ◌∙◌, ap, subst, arith, true, false, IsTrue}
-use Rattle.std.specs.Prelude.{Some, None, Ok, Err}
+use Rattle.std.proofs.Common.{◌≡◌, refl, [], ◌∷◌, ◌++◌, length, sym, ◌∙◌, ap, subst, arith, false}
+use Rattle.std.specs.Prelude.{Some}
 use Rattle.std.proofs.Common.{rules}
 use Rattle.std.proofs.lemmas.Int.{to_z-of_z}
 use mir.Syntax.{w128}
 use mir.Val.{SFits}
 use Rattle.poly_model.specs.Reduction.{class_of, degree_at, reaches}
 use Rattle.poly_model.specs.Bounded.{bounded_reduction}
-use Rattle.poly_model.specs.Division.{division_of}
 use Rattle.poly_model.specs.declared.limits.TheConstants.{MOST_VARIABLES}
 use Rattle.poly_model.proofs.Within.{within-of}
 use Rattle.poly_model.proofs.Division.{standing}
@@ -15,7 +14,7 @@ use Rattle.term_store.specs.Changes.{given_up}
 use Rattle.term_store.proofs.Making as making
 use Rattle.polynomials.specs.Held.{Gives, slot_of, polynomial_at}
 use Rattle.polynomials.proofs.Results as results
-use Rattle.pseudo_div.specs.Steps.{cost_of, AreSteps, Stops, met_by, rest_after}
+use Rattle.pseudo_div.specs.Steps.{AreSteps, Stops, met_by, rest_after}
 use Rattle.pseudo_div.specs.Advances.{Advances}
 use Rattle.pseudo_div.proofs.Reducing as reducing
 use Rattle.pseudo_div.proofs.Descending as descending

@@ -1,5 +1,3 @@
-use Rattle.std.proofs.Common.{◌≡◌, length}
-use Rattle.poly_model.specs.Division.{division_of}
 use Rattle.polynomials.specs.Held.{Gives, polynomial_at}
 use Rattle.pseudo_div.specs.Steps.{AreSteps, rest_after}
 use Rattle.pseudo_div.proofs.division.prem.Given as goal

@@ -1,13 +1,8 @@
-use Rattle.std.proofs.Common.{◌≡◌, ◌+◌, ◌-◌, ◌≤◌, suc, refl, sym, ◌∙◌, ap, subst, arith}
-use Rattle.std.specs.Prelude.{Ok, Err}
-use Rattle.poly_model.specs.Reduction.{degree_at, coefficient_at, shifted, factor_of, initial_of, parts_of, multiplier_of}
-use Rattle.poly_model.specs.Content.{primitive_part}
-use Rattle.poly_model.specs.Bounded.{bounded_difference, bounded_product, bounded_shift, bounded_cross, bounded_reduction, and_then}
-use Rattle.poly_model.specs.declared.limits.TheConstants.{MOST_VARIABLES}
+use Rattle.std.proofs.Common.{sym, subst, arith}
+use Rattle.poly_model.specs.Bounded.{bounded_difference, bounded_product}
 use Rattle.term_store.proofs.Making as making
-use Rattle.polynomials.specs.Held.{Answers, Gives, IsPoly, slot_of, polynomial_at}
+use Rattle.polynomials.specs.Held.{Answers, slot_of, polynomial_at}
 use Rattle.polynomials.proofs.Results as results
-use Rattle.pseudo_div.specs.Answers.{Reduces}
 use Rattle.pseudo_div.proofs.Reducing as reducing
 use Rattle.pseudo_div.proofs.step.less_product.Goals as goal
 
