@@ -6,6 +6,7 @@ mod laws;
 mod pieces;
 mod printing;
 mod reading;
+mod room;
 mod terms;
 
 pub use fault::PolyFault;

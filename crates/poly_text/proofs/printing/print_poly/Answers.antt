@@ -7,16 +7,16 @@ use Rattle.poly_text.proofs.printing.print_poly.Goals as goal
 pub loop-i-init : goal.loop-i-init
 loop-i-init g c = record { later = omega arith; going = begun _ _ _ }
 
-pub returns-in_err-print_entry-clause-bytes : goal.returns-in_err-print_entry-clause-bytes
-returns-in_err-print_entry-clause-bytes g c =
-    let P : List ℕ → Type 0 = λ text. Writes (g.S.Sink.written c.args.sink.now) (g.S.Sink.written c.print_entry.new.sink) c.args.pen.now c.print_entry.new.pen c.from_residual.result text in
+pub returns-in_err-push-clause-bytes : goal.returns-in_err-push-clause-bytes
+returns-in_err-push-clause-bytes g c =
+    let P : List ℕ → Type 0 = λ text. Writes (g.S.Sink.written c.args.sink.now) (g.S.Sink.written c.push-in-loop-i.new.sink) c.args.pen.now c.push-in-loop-i.new.self c.from_residual.result text in
     subst P (sym (poly_of_terms c.args.vars.now c.terms-terms.result.now c.args.p.now c.terms-terms.ensures.terms (sym c.if-is_empty.ensures)))
-    (stopped _ _ _ _ _ _ _ _ _ _ _ c.from_residual.ensures.0 c.loop-i.invariant.going (entry_next c.args.vars.now c.terms-terms.result.now c.loop-i.i _ (omega arith)) c.in_err-print_entry.ensures.bytes)
+    (stopped _ _ _ _ _ _ _ _ _ _ _ c.from_residual.ensures.0 c.loop-i.invariant.going (entry_next c.args.vars.now c.terms-terms.result.now c.loop-i.i _ _ (omega arith) c.entry.ensures) c.in_err-push.ensures.bytes)
 
 pub loop-i-preserved : goal.loop-i-preserved
 loop-i-preserved g c = record {
-  later = omega (arith, c.in_ok-print_entry.ensures.cause.later);
-  going = wrote _ _ _ _ _ _ _ _ _ _ c.loop-i.invariant.going (entry_next c.args.vars.now c.terms-terms.result.now c.loop-i.i _ (omega arith)) c.in_ok-print_entry.ensures.bytes;
+  later = omega (arith, c.in_ok-push.ensures.cause.later);
+  going = wrote _ _ _ _ _ _ _ _ _ _ c.loop-i.invariant.going (entry_next c.args.vars.now c.terms-terms.result.now c.loop-i.i _ _ (omega arith) c.entry.ensures) c.in_ok-push.ensures.bytes;
 }
 
 pub returns-clause-bytes : goal.returns-clause-bytes
