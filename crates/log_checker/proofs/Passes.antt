@@ -1,11 +1,10 @@
 -- Lines that are checked one behind the other, and the pieces of a log.
-use Rattle.std.proofs.Common.{◌≡◌, ℕ, ◌+◌, ◌^◌, ◌<◌, ◌≤◌, List, [], ◌∷◌, ◌++◌, length, take, drop, reverse, refl, sym, ◌∙◌, ap, arith, Some, None, Result, Ok, Err, append_assoc, append-nil, subst, length-append, inl, ◌⊎◌}
-use Rattle.std.proofs.lemmas.List.{reverse-append}
+use Rattle.std.proofs.Common.{◌≡◌, ℕ, ◌+◌, ◌^◌, ◌<◌, ◌≤◌, List, [], ◌∷◌, ◌++◌, length, take, drop, true, refl, sym, ◌∙◌, ap, arith, Some, None, Result, Ok, Err, append_assoc, append-nil, subst, length-append, inl, ◌⊎◌}
 use Rattle.std.proofs.lemmas.Grind.{common_steps}
 use Rattle.poly_model.specs.declared.vars.VarName.{VarName}
 use Rattle.proof_log.specs.Feeding.{Fed, FedWith, IsFed, FedTo, Stopped}
 use Rattle.proof_log.specs.Grammar.{Begins, Refuses, EndsEarly, names_behind}
-use Rattle.proof_log.specs.Text.{line_text, names_after, text_of, AreLines}
+use Rattle.proof_log.specs.Text.{row_of, line_text, names_after, text_of, AreLines}
 use Rattle.proof_log.specs.declared.line.LogLine.{LogLine}
 use Rattle.proof_log.specs.declared.line.LineWord.{LineWord}
 use Rattle.proof_log.specs.declared.reader.LogReader.{LogReader}
@@ -33,41 +32,50 @@ gathered_snoc : (g : Gathered) (a : List LogLine) (l : LogLine) → gathered g (
 unfolding gathered
 gathered_snoc g a l = gathered_append g a (l ∷ [])
 
--- ---- lines from the end of a list
-pub record Sofar (p : Progress) (ls left : List LogLine) (q : Progress) (count : ℕ) : Type 0 where
-  pub front : List LogLine
-  pub parts : ls ≡ front ++ reverse left
+-- ---- lines one after the other
+pub record Sofar (p : Progress) (ls front left : List LogLine) (q : Progress) (count : ℕ) : Type 0 where
+  pub parts : ls ≡ front ++ left
   pub went : Went p front q
   pub counts : count ≡ length front
-
-twice : {A : Type 0} (xs : List A) → reverse (reverse xs) ≡ xs
-twice [] = refl
-twice (x ∷ xs) = ap reverse (reverse-append (x ∷ []) xs) ∙ reverse-append (reverse xs) (x ∷ []) ∙ ap (λ t. x ∷ t) (twice xs)
 
 went_none : (p : Progress) → Went p [] p
 unfolding fitted gathered
 went_none p = record { fit = refl; told = refl }
 
-went_snoc : (p q r : Progress) (ls : List LogLine) (l : LogLine) → Went p ls q → Goes q l (Some r) → Went p (ls ++ l ∷ []) r
+went_snoc : (p q r : Progress) (ls : List LogLine) (l : LogLine) → Went p ls q → Goes q l true r → Went p (ls ++ l ∷ []) r
 went_snoc p q r ls l w g = record {
   fit = fitted_snoc (state_of p.checker) (state_of q.checker) (state_of r.checker) ls l w.fit g.0;
   told = g.1 ∙ ap (λ t. gathered_after t l) w.told ∙ sym (gathered_snoc (gathered_of p.told) ls l);
 }
 
-pub none_checked : (p : Progress) (ls left : List LogLine) → left ≡ reverse ls → Sofar p ls left p 0
-none_checked p ls left e = record { front = []; parts = sym (twice ls) ∙ ap reverse (sym e); went = went_none p; counts = refl }
+pub none_checked : (p : Progress) (ls left : List LogLine) → left ≡ ls → Sofar p ls [] left p 0
+none_checked p ls left e = record { parts = sym e; went = went_none p; counts = refl }
 
-last_first : (left rest : List LogLine) (l : LogLine) → left ≡ rest ++ l ∷ [] → reverse left ≡ l ∷ reverse rest
-last_first left rest l e = ap reverse e ∙ reverse-append rest (l ∷ [])
-
-pub one_checked : (p : Progress) (ls left rest : List LogLine) (q r : Progress) (n : ℕ) (l : LogLine) → Sofar p ls left q n → left ≡ rest ++ l ∷ []
-    → Goes q l (Some r) → Sofar p ls rest r (n + 1)
-one_checked p ls left rest q r n l f e g = record {
-  front = f.front ++ l ∷ [];
-  parts = f.parts ∙ ap (λ t. f.front ++ t) (last_first left rest l e) ∙ sym (append_assoc f.front (l ∷ []) (reverse rest));
-  went = went_snoc p q r f.front l f.went g;
-  counts = let a = f.counts in let b = length-append f.front (l ∷ []) in omega (arith, a, b);
+pub one_checked : (p q r : Progress) (ls front left rest : List LogLine) (n : ℕ) (l : LogLine) → Sofar p ls front left q n → left ≡ l ∷ rest
+    → Goes q l true r → Sofar p ls (front ++ l ∷ []) rest r (n + 1)
+one_checked p q r ls front left rest n l f e g = record {
+  parts = f.parts ∙ ap (λ t. front ++ t) e ∙ sym (append_assoc front (l ∷ []) rest);
+  went = went_snoc p q r front l f.went g;
+  counts = let a = f.counts in let b = length-append front (l ∷ []) in omega (arith, a, b);
 }
+
+pub one_misfits : (p q : Progress) (ls front left rest : List LogLine) (n : ℕ) (l : LogLine) (w : LineWord) → Sofar p ls front left q n
+    → left ≡ l ∷ rest → after (state_of q.checker) l ≡ None → w ≡ (row_of l).word → Misfits (state_of p.checker) ls n w
+one_misfits p q ls front left rest n l w f e m names = record {
+  front = front;
+  line = l;
+  rest = rest;
+  state = state_of q.checker;
+  parts = f.parts ∙ ap (λ t. front ++ t) e;
+  fit = f.went.fit;
+  misfit = m;
+  place = f.counts;
+  names = names;
+}
+
+pub all_checked : (p q : Progress) (ls front left : List LogLine) (n : ℕ) → Sofar p ls front left q n → left ≡ [] → Went p ls q × (n ≡ length ls)
+all_checked p q ls front left n f e =
+    let whole : front ≡ ls = sym (f.parts ∙ ap (λ t. front ++ t) e ∙ append-nil front) in (subst (λ t. Went p t q) whole f.went, f.counts ∙ ap length whole)
 
 -- ---- fronts of what a log begins with
 pub lines_front : (names : List VarName) (a b : List LogLine) → AreLines names (a ++ b) → AreLines names a
@@ -195,7 +203,7 @@ pub as_fed : (front : List LogLine) (r : LogReader) (bytes : List ℕ) → Fed f
 as_fed front r bytes f = subst (λ o. FedWith o front r bytes) (sym f.well) f
 
 pub passed_more : (bytes rest piece after : List ℕ) (r q : LogReader) (c d : Progress) (seen all : ℕ) (p : Passed bytes rest r c seen) → rest ≡ piece ++ after
-    → PieceDone (Ok (d, all)) p.front q p.done piece → Passed bytes after q d all
+    → PieceDone (Ok all) p.front q d p.done piece → Passed bytes after q d all
 passed_more bytes rest piece after r q c d seen all p e b = record {
   done = p.done ++ piece;
   parts = p.parts ∙ ap (λ t. p.done ++ t) e ∙ sym (append_assoc p.done piece after);

@@ -45,7 +45,3 @@ state_of c = record {
   waiting = reverse c.waiting.items;
   tally = tally_view c.tally;
 }
-
-abbrev pub states_of : Option LineChecker → Option State
-states_of None = None
-states_of (Some c) = Some (state_of c)

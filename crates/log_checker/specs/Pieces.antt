@@ -1,5 +1,5 @@
 -- What is known behind a piece of a log.
-use Rattle.std.specs.Prelude.{◌≡◌, ℕ, List, ◌∷◌, ◌++◌, length, Bool, true, false, Option, Some, None, Result, Ok, Err}
+use Rattle.std.specs.Prelude.{◌≡◌, ℕ, List, ◌∷◌, ◌++◌, length, Bool, true, false, Some, None, Result, Ok, Err}
 use Rattle.proof_log.specs.Feeding.{Fed}
 use Rattle.proof_log.specs.Text.{row_of}
 use Rattle.proof_log.specs.declared.line.LogLine.{LogLine}
@@ -27,9 +27,10 @@ pub record Went (p : Progress) (ls : List LogLine) (q : Progress) : Type 0 where
   pub fit : fitted (state_of p.checker) ls ≡ Some (state_of q.checker)
   pub told : gathered_of q.told ≡ gathered (gathered_of p.told) ls
 
-abbrev pub Goes : Progress → LogLine → Option Progress → Type 0
-Goes p l None = after (state_of p.checker) l ≡ None
-Goes p l (Some q) = (after (state_of p.checker) l ≡ Some (state_of q.checker)) × (gathered_of q.told ≡ gathered_after (gathered_of p.told) l)
+-- A line that fits, with what is known behind it.
+abbrev pub Goes : Progress → LogLine → (fits : Bool) → Progress → Type 0
+Goes p l false q = after (state_of p.checker) l ≡ None
+Goes p l true q = (after (state_of p.checker) l ≡ Some (state_of q.checker)) × (gathered_of q.told ≡ gathered_after (gathered_of p.told) l)
 
 -- The first of these lines that does not fit has so many before it.
 pub record Misfits (s : State) (ls : List LogLine) (count : ℕ) (word : LineWord) : Type 0 where
@@ -43,9 +44,9 @@ pub record Misfits (s : State) (ls : List LogLine) (count : ℕ) (word : LineWor
   pub place : count ≡ length front
   pub names : word ≡ (row_of line).word
 
-abbrev pub LinesJudged : Progress → List LogLine → Lines → Type 0
-LinesJudged p ls (lines.Fit q count) = Went p ls q × (count ≡ length ls)
-LinesJudged p ls (lines.Misfit count word) = Misfits (state_of p.checker) ls count word
+abbrev pub LinesJudged : Progress → List LogLine → Progress → Lines → Type 0
+LinesJudged p ls q (lines.Fit count) = Went p ls q × (count ≡ length ls)
+LinesJudged p ls q (lines.Misfit count word) = Misfits (state_of p.checker) ls count word
 
 -- These lines fit, and this is known behind them.
 pub record IsBehind (front : List LogLine) (p : Progress) (seen : ℕ) : Type 0 where
@@ -53,9 +54,9 @@ pub record IsBehind (front : List LogLine) (p : Progress) (seen : ℕ) : Type 0 
   pub told : gathered_of p.told ≡ gathered nothing front
   pub count : seen ≡ length front
 
-abbrev pub PieceDone : Result (Progress × ℕ) CheckFault → List LogLine → LogReader → List ℕ → List ℕ → Type 0
-PieceDone (Ok x) front r bytes piece = (added : List LogLine) × Fed (front ++ added) r (bytes ++ piece) × IsBehind (front ++ added) x.0 x.1
-PieceDone (Err f) front r bytes piece = (more : List ℕ) → Judged (Err f) (bytes ++ (piece ++ more))
+abbrev pub PieceDone : Result ℕ CheckFault → List LogLine → LogReader → Progress → List ℕ → List ℕ → Type 0
+PieceDone (Ok seen) front r p bytes piece = (added : List LogLine) × Fed (front ++ added) r (bytes ++ piece) × IsBehind (front ++ added) p seen
+PieceDone (Err f) front r p bytes piece = (more : List ℕ) → Judged (Err f) (bytes ++ (piece ++ more))
 
 abbrev pub fed_of : Stop → Result (Unit {0}) LogFault
 fed_of stop.No = Ok tt

@@ -1,9 +1,9 @@
 // The lines of a log, one at a time.
-ghost use Rattle.std.specs.Prelude.{◌≡◌, ◌/◌, ◌∷◌, ◌++◌, [], nat_le, IfOk};
+ghost use Rattle.std.specs.Prelude.{◌≡◌, ◌/◌, ◌∷◌, ◌++◌, [], nat_le, IfOk, OnOk};
 ghost use Rattle.poly_model.specs.declared.limits.TheConstants.{MOST_FUEL};
 ghost use Rattle.proof_steps.specs.Rules.{size_of};
 ghost use Rattle.verdicts.specs.Tallies.{Parts, no_tally, tally_after};
-ghost use Rattle.log_checker.specs.Checkers.{state_of, states_of};
+ghost use Rattle.log_checker.specs.Checkers.{state_of};
 ghost use Rattle.log_checker.specs.Fitting.{Opening, begin, after, root, is_own_part, where_fits, settled, node_row, node_settled, verdict_row, verdict_settled, inside_row};
 ghost use Rattle.log_checker.specs.Views.{ending_view};
 
@@ -77,26 +77,23 @@ impl LineChecker {
         })
     }
 
-    /// Behind the version.
-    fn with_version(self, version: u8) -> LineChecker
-        ensures { state_of result ≡ record (state_of self) { version = version } }
+    /// Reads the version.
+    fn version(&mut self, version: u8)
+        ensures { state_of self.new ≡ record (state_of self.old) { version = version } }
     {
-        LineChecker { version, ..self }
+        self.version = version;
     }
 
-    /// Behind the number of the proofs.
-    fn with_proofs(self, proofs: u8) -> LineChecker
-        ensures { state_of result ≡ record (state_of self) { fuel = MOST_FUEL / proofs } }
+    /// Reads the number of the proofs.
+    fn proofs(&mut self, proofs: u8)
+        ensures { state_of self.new ≡ record (state_of self.old) { fuel = MOST_FUEL / proofs } }
     {
-        LineChecker {
-            fuel: fuel_of_each(proofs),
-            ..self
-        }
+        self.fuel = fuel_of_each(proofs);
     }
 
-    /// At a problem of which nothing is told yet.
-    fn opening(self) -> LineChecker
-        ensures { state_of result ≡ record (state_of self) {
+    /// Comes to a problem of which nothing is told yet.
+    fn opening(&mut self)
+        ensures { state_of self.new ≡ record (state_of self.old) {
           hyps = [];
           cons = [];
           part = Opening;
@@ -104,41 +101,37 @@ impl LineChecker {
           tally = no_tally;
         } }
     {
-        let alloc = self.alloc;
-        LineChecker {
-            hyps: Vec::new(alloc),
-            cons: Vec::new(alloc),
-            part: Part::Opening,
-            waiting: Vec::new(alloc),
-            tally: Tally::new(alloc),
-            ..self
-        }
+        self.hyps = Vec::new(self.alloc);
+        self.cons = Vec::new(self.alloc);
+        self.part = Part::Opening;
+        self.waiting = Vec::new(self.alloc);
+        self.tally = Tally::new(self.alloc);
     }
 
-    /// Behind a hypothesis, if it fits.
-    fn with_hyp(self, p: OwnedPoly) -> Result<Option<LineChecker>, AllocError>
-        ensures { IfOk result (λ r. states_of r ≡ where_fits (is_own_part p)
-            (record (state_of self) { hyps = (state_of self).hyps ++ p ∷ [] })) }
+    /// Reads a hypothesis, if it fits.
+    fn hyp(&mut self, p: OwnedPoly) -> Result<bool, AllocError>
+        ensures { IfOk result (λ fits. where_fits (is_own_part p)
+            (record (state_of self.old) { hyps = (state_of self.old).hyps ++ p ∷ [] })
+            ≡ where_fits fits (state_of self.new)) }
     {
-        let mut checker = self;
-        if !is_own_part(&mut checker.store, &p)? {
-            return Ok(None);
+        if !is_own_part(&mut self.store, &p)? {
+            return Ok(false);
         }
-        checker.hyps.push(p)?;
-        Ok(Some(checker))
+        self.hyps.push(p)?;
+        Ok(true)
     }
 
-    /// Behind a conclusion, if it fits.
-    fn with_con(self, p: OwnedPoly) -> Result<Option<LineChecker>, AllocError>
-        ensures { IfOk result (λ r. states_of r ≡ where_fits (is_own_part p)
-            (record (state_of self) { cons = (state_of self).cons ++ p ∷ [] })) }
+    /// Reads a conclusion, if it fits.
+    fn con(&mut self, p: OwnedPoly) -> Result<bool, AllocError>
+        ensures { IfOk result (λ fits. where_fits (is_own_part p)
+            (record (state_of self.old) { cons = (state_of self.old).cons ++ p ∷ [] })
+            ≡ where_fits fits (state_of self.new)) }
     {
-        let mut checker = self;
-        if !is_own_part(&mut checker.store, &p)? {
-            return Ok(None);
+        if !is_own_part(&mut self.store, &p)? {
+            return Ok(false);
         }
-        checker.cons.push(p)?;
-        Ok(Some(checker))
+        self.cons.push(p)?;
+        Ok(true)
     }
 
     /// The root of the problem, where the fuel is at least its size.
@@ -155,157 +148,145 @@ impl LineChecker {
         }))
     }
 
-    /// Where the root waits, if it can.
-    fn at_root(self) -> Result<Option<LineChecker>, AllocError>
-        ensures { IfOk result (λ r. states_of r ≡ where_fits
-            (nat_le (size_of (root (state_of self))) self.fuel)
-            (record (state_of self) { waiting = root (state_of self) ∷ []; tally = no_tally })) }
+    /// Lets the root wait, if it can.
+    fn at_root(&mut self) -> Result<bool, AllocError>
+        ensures { IfOk result (λ fits. where_fits
+            (nat_le (size_of (root (state_of self.old))) self.old.fuel)
+            (record (state_of self.old) { waiting = root (state_of self.old) ∷ []; tally = no_tally })
+            ≡ where_fits fits (state_of self.new)) }
     {
-        let mut checker = self;
-        let Some(root) = checker.root()? else {
-            return Ok(None);
+        let Some(root) = self.root()? else {
+            return Ok(false);
         };
-        let mut waiting = Vec::new(checker.alloc);
+        let mut waiting = Vec::new(self.alloc);
         waiting.push(root)?;
-        checker.waiting = waiting;
-        checker.tally = Tally::new(checker.alloc);
-        Ok(Some(checker))
+        self.waiting = waiting;
+        self.tally = Tally::new(self.alloc);
+        Ok(true)
     }
 
-    /// Behind a piece that is split.
+    /// Leaves a piece that is split.
     fn behind_split(
-        self,
+        &mut self,
         path: &Path,
         plus: Node,
         minus: Node,
         gain: OwnedPoly,
-    ) -> Result<LineChecker, AllocError>
-        ensures { IfOk result (λ c. state_of c ≡ record (state_of self) {
-          waiting = plus ∷ minus ∷ (state_of self).waiting;
-          tally = tally_after (state_of self).tally path.now (Parts gain);
+    ) -> Result<(), AllocError>
+        ensures { OnOk result (state_of self.new ≡ record (state_of self.old) {
+          waiting = plus ∷ minus ∷ (state_of self.old).waiting;
+          tally = tally_after (state_of self.old).tally path.now (Parts gain);
         }) }
     {
-        let mut checker = self;
-        checker.tally = checker.tally.with_split(path, gain)?;
-        checker.waiting.push(minus)?;
-        checker.waiting.push(plus)?;
-        Ok(checker)
+        self.tally.split(path, gain)?;
+        self.waiting.push(minus)?;
+        self.waiting.push(plus)?;
+        Ok(())
     }
 
-    /// Behind a leaf.
-    fn behind_leaf(self, path: Path, ending: Ending) -> Result<LineChecker, AllocError>
-        ensures { IfOk result (λ c. state_of c ≡ record (state_of self) {
-          tally = tally_after (state_of self).tally path (ending_view ending);
+    /// Leaves a leaf.
+    fn behind_leaf(&mut self, path: Path, ending: Ending) -> Result<(), AllocError>
+        ensures { OnOk result (state_of self.new ≡ record (state_of self.old) {
+          tally = tally_after (state_of self.old).tally path (ending_view ending);
         }) }
     {
-        let mut checker = self;
-        checker.tally = checker.tally.with_leaf(checker.alloc, path, ending)?;
-        Ok(checker)
+        self.tally.leaf(self.alloc, path, ending)
     }
 
-    /// With no piece open, where the piece that was open has ended.
-    fn settled(self) -> Result<Option<LineChecker>, AllocError>
-        ensures { IfOk result (λ r. states_of r ≡ settled (state_of self) (state_of self).part) }
+    /// Leaves the piece that is open, if it has ended.
+    fn settled(&mut self) -> Result<bool, AllocError>
+        ensures { IfOk result (λ fits. settled (state_of self.old) (state_of self.old).part
+            ≡ where_fits fits (state_of self.new)) }
     {
-        let mut checker = self;
-        match mem::replace(&mut checker.part, Part::Between) {
-            Part::Opening => checker.at_root(),
+        match mem::replace(&mut self.part, Part::Between) {
+            Part::Opening => self.at_root(),
             Part::Within(path, inside) => match end_of(inside) {
                 Some(PieceEnd::Parted { plus, minus, gain }) => {
-                    Ok(Some(checker.behind_split(&path, plus, minus, gain)?))
+                    self.behind_split(&path, plus, minus, gain)?;
+                    Ok(true)
                 }
-                Some(PieceEnd::Leaf(ending)) => Ok(Some(checker.behind_leaf(path, ending)?)),
-                None => Ok(None),
+                Some(PieceEnd::Leaf(ending)) => {
+                    self.behind_leaf(path, ending)?;
+                    Ok(true)
+                }
+                None => Ok(false),
             },
-            Part::Between => Ok(Some(checker)),
+            Part::Between => Ok(true),
         }
     }
 
-    /// In the piece of a path, if that is the path of the node that waits first.
-    fn within_next(self, path: Path) -> Option<LineChecker>
-        ensures { states_of result ≡ node_row (state_of self) path (state_of self).waiting }
+    /// Opens the piece of a path, if that is the path of the node that waits first.
+    fn within_next(&mut self, path: Path) -> bool
+        ensures { node_row (state_of self.old) path (state_of self.old).waiting
+            ≡ where_fits result (state_of self.new) }
     {
-        let mut checker = self;
-        let node = checker.waiting.pop()?;
+        let Some(node) = self.waiting.pop() else {
+            return false;
+        };
         if !path.is(&node.path) {
-            return None;
+            return false;
         }
-        checker.part = Part::Within(path, Inside::At(node));
-        Some(checker)
+        self.part = Part::Within(path, Inside::At(node));
+        true
     }
 
-    /// Behind a line `node`, if it fits.
-    fn with_node(self, path: Path) -> Result<Option<LineChecker>, AllocError>
-        ensures { IfOk result (λ r. states_of r
-            ≡ node_settled path (settled (state_of self) (state_of self).part)) }
+    /// Reads a line `node`, if it fits.
+    fn node(&mut self, path: Path) -> Result<bool, AllocError>
+        ensures { IfOk result (λ fits.
+            node_settled path (settled (state_of self.old) (state_of self.old).part)
+            ≡ where_fits fits (state_of self.new)) }
     {
-        match self.settled()? {
-            Some(checker) => Ok(checker.within_next(path)),
-            None => Ok(None),
-        }
+        Ok(self.settled()? && self.within_next(path))
     }
 
-    /// Behind the verdict, where no node waits and it is that of the tally.
-    fn told(self, verdict: &Verdict) -> Option<LineChecker>
-        ensures { states_of result ≡ verdict_row (state_of self) verdict.now (state_of self).waiting }
+    /// No node waits, and the verdict is that of the tally.
+    fn tells(&self, verdict: &Verdict) -> bool
+        ensures { verdict_row (state_of self.now) verdict.now (state_of self.now).waiting
+            ≡ where_fits result (state_of self.now) }
     {
-        if self.waiting.is_empty() && self.tally.tells(verdict) {
-            Some(self)
-        } else {
-            None
-        }
+        self.waiting.is_empty() && self.tally.tells(verdict)
     }
 
-    /// Behind a line `verdict`, if it fits.
-    fn with_verdict(self, verdict: &Verdict) -> Result<Option<LineChecker>, AllocError>
-        ensures { IfOk result (λ r. states_of r
-            ≡ verdict_settled verdict.now (settled (state_of self) (state_of self).part)) }
+    /// Reads a line `verdict`, if it fits.
+    fn verdict(&mut self, verdict: &Verdict) -> Result<bool, AllocError>
+        ensures { IfOk result (λ fits.
+            verdict_settled verdict.now (settled (state_of self.old) (state_of self.old).part)
+            ≡ where_fits fits (state_of self.new)) }
     {
-        match self.settled()? {
-            Some(checker) => Ok(checker.told(verdict)),
-            None => Ok(None),
-        }
+        Ok(self.settled()? && self.tells(verdict))
     }
 
-    /// Behind a line inside a piece, if it fits.
-    fn within(self, line: LogLine) -> Result<Option<LineChecker>, AllocError>
-        ensures { IfOk result (λ r. states_of r
-            ≡ inside_row (state_of self) line (state_of self).part) }
+    /// Reads a line inside a piece, if it fits.
+    fn within(&mut self, line: LogLine) -> Result<bool, AllocError>
+        ensures { IfOk result (λ fits. inside_row (state_of self.old) line (state_of self.old).part
+            ≡ where_fits fits (state_of self.new)) }
     {
-        let mut checker = self;
-        match mem::replace(&mut checker.part, Part::Between) {
-            Part::Within(path, inside) => {
-                let next = line_within(
-                    checker.alloc,
-                    &mut checker.store,
-                    &checker.cons,
-                    inside,
-                    line,
-                )?;
-                let Some(inside) = next else {
-                    return Ok(None);
-                };
-                checker.part = Part::Within(path, inside);
-                Ok(Some(checker))
-            }
-            Part::Opening | Part::Between => Ok(None),
-        }
+        let Part::Within(path, inside) = mem::replace(&mut self.part, Part::Between) else {
+            return Ok(false);
+        };
+        let next = line_within(self.alloc, &mut self.store, &self.cons, inside, line)?;
+        let Some(inside) = next else {
+            return Ok(false);
+        };
+        self.part = Part::Within(path, inside);
+        Ok(true)
     }
 
-    /// Behind a line, if it fits what stands before it.
+    /// Reads a line, if it fits what stands before it.
     #[tactic(auto, unfolding(crate::specs::Fitting::after))]
-    pub fn line(self, line: LogLine) -> Result<Option<LineChecker>, AllocError>
-        ensures { IfOk result (λ r. states_of r ≡ after (state_of self) line) }
+    pub fn line(&mut self, line: LogLine) -> Result<bool, AllocError>
+        ensures { IfOk result (λ fits. after (state_of self.old) line
+            ≡ where_fits fits (state_of self.new)) }
     {
         match line {
-            LogLine::Head(version) => Ok(Some(self.with_version(version))),
-            LogLine::Proves(proofs) => Ok(Some(self.with_proofs(proofs))),
-            LogLine::Prove(_) => Ok(Some(self.opening())),
-            LogLine::Vars(_) | LogLine::End => Ok(Some(self)),
-            LogLine::Hyp(p) => self.with_hyp(p),
-            LogLine::Con(p) => self.with_con(p),
-            LogLine::Node(path) => self.with_node(path),
-            LogLine::Verdict(verdict) => self.with_verdict(&verdict),
+            LogLine::Head(version) => self.version(version),
+            LogLine::Proves(proofs) => self.proofs(proofs),
+            LogLine::Prove(_) => self.opening(),
+            LogLine::Vars(_) | LogLine::End => {}
+            LogLine::Hyp(p) => return self.hyp(p),
+            LogLine::Con(p) => return self.con(p),
+            LogLine::Node(path) => return self.node(path),
+            LogLine::Verdict(verdict) => return self.verdict(&verdict),
             LogLine::Drop(_)
             | LogLine::Red { .. }
             | LogLine::Tail { .. }
@@ -319,7 +300,8 @@ impl LineChecker {
             | LogLine::Unreduced { .. }
             | LogLine::Open { .. }
             | LogLine::Eq(_)
-            | LogLine::Ne(_) => self.within(line),
+            | LogLine::Ne(_) => return self.within(line),
         }
+        Ok(true)
     }
 }

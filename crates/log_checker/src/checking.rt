@@ -1,4 +1,4 @@
-ghost use Rattle.std.specs.Prelude.{◌≡◌, ◌≤◌, ◌<◌, ◌+◌, ◌^◌, [], ◌++◌, ℕ, List, length, vec_len, IfOk, Result, Ok, Err};
+ghost use Rattle.std.specs.Prelude.{◌≡◌, ◌≤◌, ◌<◌, ◌+◌, ◌^◌, [], ◌++◌, ℕ, List, length, vec_len, IfOk, OnOk, Result, Ok, Err};
 ghost use Rattle.poly_model.specs.declared.limits.TheConstants.{MOST_LOG_BYTES};
 ghost use Rattle.proof_log.specs.Feeding.{IsFed};
 ghost use Rattle.proof_log.specs.declared.line.LogLine.{LogLine};
@@ -38,14 +38,11 @@ impl Progress {
         })
     }
 
-    fn line(self, line: LogLine) -> Result<Option<Progress>, AllocError>
-        ensures { IfOk result (Goes self line) }
+    fn line(&mut self, line: LogLine) -> Result<bool, AllocError>
+        ensures { IfOk result (λ fits. Goes self.old line fits self.new) }
     {
-        let told = self.told.line(&line)?;
-        match self.checker.line(line)? {
-            Some(checker) => Ok(Some(Progress { checker, told })),
-            None => Ok(None),
-        }
+        self.told.line(&line)?;
+        self.checker.line(line)
     }
 
     fn checked(self) -> Checked
@@ -60,29 +57,25 @@ impl Progress {
     }
 }
 
-/// Lines that fit, and how many they are; or the first that does not, by how many stand before it, and its word.
+/// How many lines fit; or how many stand before the first that does not, and its word.
 #[derive(Drop)]
 pub enum Lines {
-    Fit(Progress, usize),
+    Fit(usize),
     Misfit(usize, LineWord),
 }
 
-fn check_lines(progress: Progress, lines: Vec<LogLine>) -> Result<Lines, AllocError>
-    ensures { IfOk result (LinesJudged progress lines.items) }
+fn check_lines(progress: &mut Progress, lines: Vec<LogLine>) -> Result<Lines, AllocError>
+    ensures { IfOk result (LinesJudged progress.old lines.items progress.new) }
 {
-    let mut lines = lines;
-    lines.reverse();
-    let mut progress = progress;
     let mut count = 0;
-    while let Some(line) = lines.pop() {
+    for line in lines {
         let word = line.word();
-        match progress.line(line)? {
-            Some(next) => progress = next,
-            None => return Ok(Lines::Misfit(count, word)),
+        if !progress.line(line)? {
+            return Ok(Lines::Misfit(count, word));
         }
         count += 1;
     }
-    Ok(Lines::Fit(progress, count))
+    Ok(Lines::Fit(count))
 }
 
 /// The number of the line behind so many lines and so many more, counted from 1.
@@ -117,19 +110,19 @@ fn is_memory(stop: Stop) -> bool
     matches!(stop, Stop::Memory)
 }
 
-/// Checks the lines that a piece of the log ends, and drops them.
+/// Checks the lines that a piece of the log ends, and drops them. Tells how many lines there are with those seen before.
 fn check_piece(
     alloc: Global,
     reader: &mut LogReader,
-    progress: Progress,
+    progress: &mut Progress,
     seen: usize,
     piece: &[u8],
-) -> Result<(Progress, usize), CheckFault>
+) -> Result<usize, CheckFault>
     requires { reader.old.fed + length piece.now ≤ 2 ^ 30 }
-    ensures fed { IfOk result (λ r. reader.new.fed ≡ reader.old.fed + length piece.now) }
+    ensures fed { OnOk result (reader.new.fed ≡ reader.old.fed + length piece.now) }
     ensures done { (bytes : List ℕ) (front : List LogLine) → length bytes ≡ reader.old.fed
-        → IsFed front reader.old bytes → IsBehind front progress seen
-        → PieceDone result front reader.new bytes piece.now }
+        → IsFed front reader.old bytes → IsBehind front progress.old seen
+        → PieceDone result front reader.new progress.new bytes piece.now }
 {
     let mut lines = Vec::new(alloc);
     let stop = stop_of(reader.feed(piece, &mut lines));
@@ -139,8 +132,8 @@ fn check_piece(
     match check_lines(progress, lines) {
         Err(_) => Err(CheckFault::OutOfMemory),
         Ok(Lines::Misfit(more, word)) => Err(CheckFault::Rejected(number(seen, more), word)),
-        Ok(Lines::Fit(next, count)) => match stop {
-            Stop::No => Ok((next, seen.saturating_add(count))),
+        Ok(Lines::Fit(count)) => match stop {
+            Stop::No => Ok(seen.saturating_add(count)),
             Stop::At(n) => Err(CheckFault::Malformed(n)),
             Stop::Memory => Err(CheckFault::OutOfMemory),
         },
@@ -165,13 +158,7 @@ pub fn check_bytes(alloc: Global, bytes: &[u8]) -> Result<Checked, CheckFault>
     let mut rest = bytes;
     while !rest.is_empty() {
         let (piece, after) = rest.split_at(rest.len().min(PIECE));
-        match check_piece(alloc, &mut reader, progress, seen, piece) {
-            Ok((next, all)) => {
-                progress = next;
-                seen = all;
-            }
-            Err(fault) => return Err(fault),
-        }
+        seen = check_piece(alloc, &mut reader, &mut progress, seen, piece)?;
         rest = after;
     }
     match reader.finish() {

@@ -1,4 +1,4 @@
-ghost use Rattle.std.specs.Prelude.{◌≡◌, IfOk};
+ghost use Rattle.std.specs.Prelude.{◌≡◌, IfOk, OnOk};
 ghost use Rattle.log_checker.specs.Gathering.{nothing, with_verdict, gathered_after, gathered_of};
 
 use crate::children::copies;
@@ -6,6 +6,7 @@ use poly_model::{OwnedPoly, Row, Vars};
 use proof_log::LogLine;
 use proof_steps::Problem;
 use std::alloc::{AllocError, Global};
+use std::mem;
 use verdicts::Verdict;
 
 /// The problems and the verdicts of the lines so far, and the problem that is being told.
@@ -56,34 +57,34 @@ impl Gathering {
         }
     }
 
-    fn with_verdict(self, verdict: &Verdict) -> Result<Gathering, AllocError>
-        ensures { IfOk result (λ g. gathered_of g ≡ with_verdict (gathered_of self) verdict.now) }
+    /// Adds the problem that is told and its verdict.
+    fn verdict(&mut self, verdict: &Verdict) -> Result<(), AllocError>
+        ensures { OnOk result (gathered_of self.new
+            ≡ with_verdict (gathered_of self.old) verdict.now) }
     {
-        let mut told = self;
-        let problem = Problem {
-            vars: told.vars,
-            hyps: Row::from_vec(told.hyps),
-            cons: Row::from_vec(told.cons),
-        };
-        told.hyps = Vec::new(told.alloc);
-        told.cons = Vec::new(told.alloc);
-        told.problems.push(problem)?;
-        told.verdicts.push(copy_of(told.alloc, verdict)?)?;
-        Ok(told)
+        let hyps = mem::replace(&mut self.hyps, Vec::new(self.alloc));
+        let cons = mem::replace(&mut self.cons, Vec::new(self.alloc));
+        self.problems.push(Problem {
+            vars: self.vars,
+            hyps: Row::from_vec(hyps),
+            cons: Row::from_vec(cons),
+        })?;
+        self.verdicts.push(copy_of(self.alloc, verdict)?)?;
+        Ok(())
     }
 
-    /// Behind one line more.
-    pub fn line(self, line: &LogLine) -> Result<Gathering, AllocError>
-        ensures { IfOk result (λ g. gathered_of g ≡ gathered_after (gathered_of self) line.now) }
+    /// Adds what one line more tells.
+    pub fn line(&mut self, line: &LogLine) -> Result<(), AllocError>
+        ensures { OnOk result (gathered_of self.new
+            ≡ gathered_after (gathered_of self.old) line.now) }
     {
-        let mut told = self;
         match line {
-            LogLine::Vars(vars) => told.vars = *vars,
-            LogLine::Hyp(p) => told.hyps.push(p.copy(told.alloc)?)?,
-            LogLine::Con(p) => told.cons.push(p.copy(told.alloc)?)?,
-            LogLine::Verdict(verdict) => return told.with_verdict(verdict),
+            LogLine::Vars(vars) => self.vars = *vars,
+            LogLine::Hyp(p) => self.hyps.push(p.copy(self.alloc)?)?,
+            LogLine::Con(p) => self.cons.push(p.copy(self.alloc)?)?,
+            LogLine::Verdict(verdict) => self.verdict(verdict)?,
             _ => {}
         }
-        Ok(told)
+        Ok(())
     }
 }

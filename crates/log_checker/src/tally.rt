@@ -1,5 +1,5 @@
 // The verdict of a proof as its pieces tell it, one after the other.
-ghost use Rattle.std.specs.Prelude.{◌≡◌, [], true, false, get_or, IfOk};
+ghost use Rattle.std.specs.Prelude.{◌≡◌, [], true, false, get_or, OnOk};
 ghost use Rattle.proof_steps.specs.Trees.{same_list};
 ghost use Rattle.verdicts.specs.Tallies.{Parts, no_tally, leaf_tally, leaves_some, tally_after, verdict_at, verdict_told};
 ghost use Rattle.verdicts.specs.Verdicts.{under};
@@ -147,54 +147,51 @@ impl Tally {
         }
     }
 
-    /// Behind a piece that is split, whose `+` child gains a condition.
-    pub fn with_split(self, path: &Path, gain: OwnedPoly) -> Result<Tally, AllocError>
-        ensures { IfOk result (λ t. tally_view t ≡ tally_after (tally_view self) path.now (Parts gain)) }
+    /// Adds a piece that is split, whose `+` child gains a condition.
+    pub fn split(&mut self, path: &Path, gain: OwnedPoly) -> Result<(), AllocError>
+        ensures { OnOk result (tally_view self.new
+            ≡ tally_after (tally_view self.old) path.now (Parts gain)) }
     {
-        let mut tally = self;
         if !has_minus(path) {
-            tally.gains.push(gain)?;
+            self.gains.push(gain)?;
         }
-        Ok(tally)
+        Ok(())
     }
 
-    /// Behind a leaf of the generic branch: the first one stays.
-    fn with_generic(self, path: Path, ending: Ending) -> Tally
-        ensures { tally_view result ≡ leaf_tally (tally_view self) path (ending_view ending) false }
+    /// Adds a leaf of the generic branch: the first one stays.
+    fn generic_leaf(&mut self, path: Path, ending: Ending)
+        ensures { tally_view self.new
+            ≡ leaf_tally (tally_view self.old) path (ending_view ending) false }
     {
-        match self.generic {
-            None => Tally {
-                generic: Some((path, ending)),
-                ..self
-            },
-            Some(_) => self,
+        if self.generic.is_none() {
+            self.generic = Some((path, ending));
         }
     }
 
-    /// Behind a leaf off the generic branch. Where it leaves some conclusion, what was gained where its path leaves the
+    /// Adds a leaf off the generic branch. Where it leaves some conclusion, what was gained where its path leaves the
     /// branch is a condition.
-    fn with_other(self, alloc: Global, path: &Path, ending: &Ending) -> Result<Tally, AllocError>
-        ensures { IfOk result (λ t. tally_view t
-            ≡ leaf_tally (tally_view self) path.now (ending_view ending.now) true) }
+    fn other_leaf(&mut self, alloc: Global, path: &Path, ending: &Ending) -> Result<(), AllocError>
+        ensures { OnOk result (tally_view self.new
+            ≡ leaf_tally (tally_view self.old) path.now (ending_view ending.now) true) }
     {
-        let mut tally = self;
         if leaves_some(ending) {
             let nothing = nothing(alloc);
-            let gain = gain_at(&tally.gains, plus_part(path).len(), &nothing);
-            add_condition(alloc, &mut tally.conditions, gain)?;
+            let gain = gain_at(&self.gains, plus_part(path).len(), &nothing);
+            add_condition(alloc, &mut self.conditions, gain)?;
         }
-        Ok(tally)
+        Ok(())
     }
 
-    /// Behind a leaf.
-    pub fn with_leaf(self, alloc: Global, path: Path, ending: Ending) -> Result<Tally, AllocError>
-        ensures { IfOk result (λ t. tally_view t
-            ≡ tally_after (tally_view self) path (ending_view ending)) }
+    /// Adds a leaf.
+    pub fn leaf(&mut self, alloc: Global, path: Path, ending: Ending) -> Result<(), AllocError>
+        ensures { OnOk result (tally_view self.new
+            ≡ tally_after (tally_view self.old) path (ending_view ending)) }
     {
         if has_minus(&path) {
-            self.with_other(alloc, &path, &ending)
+            self.other_leaf(alloc, &path, &ending)
         } else {
-            Ok(self.with_generic(path, ending))
+            self.generic_leaf(path, ending);
+            Ok(())
         }
     }
 

@@ -1,5 +1,6 @@
 use Rattle.std.proofs.Common.{◌≡◌, ◌+◌, ◌++◌, ℕ, length, sym, ◌∙◌, ap, arith, subst, List, length-append, Ok, Err}
 use Rattle.std.proofs.lemmas.Bool.{eqb-true}
+use Rattle.std.proofs.lemmas.Result.{err_from_is_err_and}
 use Rattle.proof_log.specs.Feeding.{Finished}
 use Rattle.log_checker.specs.Answers.{IsMalformed}
 use Rattle.log_checker.specs.Checked.{Judged}
@@ -16,22 +17,24 @@ loop-rest-init c = record {
   passed = none_passed c.args.bytes.now c.in-Ok.reader c.in-Ok-new.progress c.in-Ok.ensures.fed.0 c.in-Ok.ensures.well c.in-Ok-new.ensures;
 }
 
-pub returns-in-Err : goal.returns-in-Err
-returns-in-Err c =
+pub returns-in_err-seen : goal.returns-in_err-seen
+returns-in_err-seen c =
     let l = c.loop-rest in
     let p = l.invariant.passed in
     let cut = c.split_at in
     let whole = both_parts c.min.result l.rest.now _ _ cut.ensures.front cut.ensures.back in
     let count = counted l.reader.fed c.args.bytes.now p.done l.rest.now l.invariant.count p.parts in
-    passed_fault c.args.bytes.now l.rest.now cut.result.0.now cut.result.1.now l.reader l.progress l.seen c.in-Err.fault p whole
-    (c.in-Err.ensures.done p.done p.front count (as_fed p.front l.reader p.done p.fed) p.behind)
+    let told = err_from_is_err_and c.from_residual.result c.from_residual.ensures.1 in
+    subst (λ x. Judged x c.args.bytes.now) (sym (told.1 ∙ ap Err told.2))
+    (passed_fault c.args.bytes.now l.rest.now cut.result.0.now cut.result.1.now l.reader l.progress l.seen _ p whole
+    (c.in_err-seen.ensures.done p.done p.front count (as_fed p.front l.reader p.done p.fed) p.behind))
 
 pub loop-rest-preserved : goal.loop-rest-preserved
 loop-rest-preserved c =
     let l = c.loop-rest in
     let p = l.invariant.passed in
     let cut = c.split_at in
-    let next = c.in-Ok-check_piece in
+    let next = c.in_ok-seen in
     let whole = both_parts c.min.result l.rest.now _ _ cut.ensures.front cut.ensures.back in
     let count = counted l.reader.fed c.args.bytes.now p.done l.rest.now l.invariant.count p.parts in
     let both = length-append cut.result.0.now cut.result.1.now in
@@ -40,7 +43,7 @@ loop-rest-preserved c =
     let all = l.invariant.count in
     record {
       count = omega (arith, sum, both, fed, all);
-      passed = passed_more c.args.bytes.now l.rest.now cut.result.0.now cut.result.1.now l.reader c.check_piece.new.reader l.progress next.next l.seen next.all p whole
+      passed = passed_more c.args.bytes.now l.rest.now cut.result.0.now cut.result.1.now l.reader c.check_piece.new.reader l.progress c.check_piece.new.progress l.seen next.seen p whole
           (next.ensures.done p.done p.front count (as_fed p.front l.reader p.done p.fed) p.behind);
     }
 

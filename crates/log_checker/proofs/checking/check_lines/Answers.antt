@@ -1,26 +1,17 @@
-use Rattle.std.proofs.Common.{length, ap, arith, subst, length-append, ◌∷◌, []}
+use Rattle.std.proofs.Common.{subst}
 use Rattle.log_checker.specs.Pieces.{Goes}
 use Rattle.log_checker.proofs.Passes.{none_checked, one_checked}
 use Rattle.log_checker.proofs.checking.check_lines.Goals as goal
 
 pub loop-line-init : goal.loop-line-init
-loop-line-init c = record {
-  few = let a = c.reverse.ensures.len in let b = c.args.lines.ok in let d = c.reverse.new.self.ok in omega (arith, a, b, d);
-  sofar = none_checked c.args.progress c.args.lines.items c.reverse.new.self.items c.reverse.ensures.items;
-}
+loop-line-init c = record { sofar = none_checked c.args.progress.now c.args.lines.items _ c.into_iter-line-iterator.ensures.into_iter_gives.0 }
 
 pub loop-line-preserved : goal.loop-line-preserved
 loop-line-preserved c =
     let l = c.loop-line in
     let line = c.in-Some.line in
-    let parts = c.in-Some.ensures.items in
-    let left = c.pop.new.self.items in
-    let next = c.in-Some-2.next in
-    let fewer = ap length parts in
-    let one = length-append left (line ∷ []) in
-    let few = l.invariant.few in
+    let goes = subst (λ fits. Goes l.progress line fits c.line.new.self) c.if-not-branch.false c.in_ok-line.ensures in
     record {
-      few = omega (arith, fewer, one, few);
-      sofar = one_checked c.args.progress c.args.lines.items l.lines.items left l.progress next l.count line l.invariant.sofar parts
-          (subst (Goes l.progress line) c.in-Some-2.is c.in_ok-next.ensures);
+      sofar = one_checked c.args.progress.now l.progress c.line.new.self c.args.lines.items l.yielded l.line-iterator.rest.items c.next.new.self.rest.items l.count line l.invariant.sofar
+          c.in-Some.ensures.steps.0 goes;
     }
