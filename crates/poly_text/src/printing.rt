@@ -1,4 +1,4 @@
-ghost use Rattle.std.specs.Prelude.{◌≡◌, ◌++◌, ◌∷◌, [], IsTrue, length};
+ghost use Rattle.std.specs.Prelude.{IsTrue, length};
 ghost use Rattle.desk_io.specs.Causes.{HasCause};
 ghost use Rattle.desk_io.specs.Bytes.{Writes};
 ghost use Rattle.poly_model.specs.Polynomial.{is_over};

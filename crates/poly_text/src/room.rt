@@ -14,7 +14,7 @@ use poly_model::{MOST_VARIABLES, Term, VarName, Vars};
 /// How many bytes a sign may take.
 const MOST_SIGN: usize = 3;
 
-/// How many bytes a sign and a size may take.
+/// How many bytes a sign and a size may take, since no number has more than 40 digits.
 const FRONT: usize = MOST_SIGN + 40;
 
 /// How many bytes a factor may take: its joint, the letter and the number of its variable, and its exponent.
@@ -32,6 +32,7 @@ fn put_byte(b: u8, n: usize, room: &mut [u8; ROOM]) -> usize
     n + 1
 }
 
+/// A number below 100.
 fn put_short(number: u8, n: usize, room: &mut [u8; ROOM]) -> usize
     requires { (number < 100) × (n + 2 ≤ ROOM) }
     ensures within { result ≤ n + 2 }
