@@ -5,7 +5,6 @@ use Rattle.std.specs.List.{flat_map, AllByRecursion}
 use Rattle.std.proofs.lemmas.List.Elements.{All-from_recursion}
 use Rattle.poly_model.specs.Polynomial.{Polynomial}
 use Rattle.poly_model.specs.declared.vars.VarName.{VarName}
-use Rattle.proof_steps.specs.declared.piece.ChainStep.{ChainStep}
 use Rattle.proof_steps.specs.declared.piece.LeafStatus.{LeafStatus}
 use Rattle.proof_steps.specs.declared.piece.LeafStatus.TheVariants as status
 use Rattle.proof_steps.specs.declared.piece.Outcome.{Outcome}
@@ -16,8 +15,8 @@ use Rattle.proof_steps.specs.declared.step.Step.TheVariants as step
 use Rattle.verdicts.specs.declared.verdict.Verdict.{Verdict}
 use Rattle.verdicts.specs.declared.verdict.Verdict.TheVariants as verdict
 use Rattle.proof_log.specs.Grammar.{names_behind}
-use Rattle.proof_log.specs.Lines.{step_line, status_line, list_lines, outcome_lines, work_lines, piece_lines, proof_lines, proofs_lines, log_lines, OutcomeWritten, PieceWritten, PiecesWritten, LogWritten}
-use Rattle.proof_log.specs.Own.{IsOver, StepIsOver, ChainIsOver, OutcomeIsOver, PieceIsOver, VerdictIsOver, ProblemIsOwn, IsOwn}
+use Rattle.proof_log.specs.Lines.{step_line, status_line, list_lines, outcome_lines, piece_lines, proof_lines, proofs_lines, log_lines, OutcomeWritten, PieceWritten, PiecesWritten, LogWritten}
+use Rattle.proof_log.specs.Own.{IsOver, StepIsOver, ChainIsOver, OutcomeIsOver, PieceIsOver, VerdictIsOver, IsOwn}
 use Rattle.proof_log.specs.Text.{FitPolys, FitsVerdict, IsLine, names_after, AreLines}
 use Rattle.proof_log.specs.declared.line.LogLine.{LogLine}
 use Rattle.proof_log.specs.declared.line.LogLine.TheVariants as line
