@@ -78,21 +78,21 @@ impl LineChecker {
     }
 
     /// Reads the version.
-    fn version(&mut self, version: u8)
+    fn read_version(&mut self, version: u8)
         ensures { state_of self.new ≡ record (state_of self.old) { version = version } }
     {
         self.version = version;
     }
 
     /// Reads the number of the proofs.
-    fn proofs(&mut self, proofs: u8)
+    fn read_proofs(&mut self, proofs: u8)
         ensures { state_of self.new ≡ record (state_of self.old) { fuel = MOST_FUEL / proofs } }
     {
         self.fuel = fuel_of_each(proofs);
     }
 
     /// Comes to a problem of which nothing is told yet.
-    fn opening(&mut self)
+    fn open_problem(&mut self)
         ensures { state_of self.new ≡ record (state_of self.old) {
           hyps = [];
           cons = [];
@@ -109,7 +109,7 @@ impl LineChecker {
     }
 
     /// Reads a hypothesis, if it fits.
-    fn hyp(&mut self, p: OwnedPoly) -> Result<bool, AllocError>
+    fn read_hyp(&mut self, p: OwnedPoly) -> Result<bool, AllocError>
         ensures { IfOk result (λ fits. where_fits (is_own_part p)
             (record (state_of self.old) { hyps = (state_of self.old).hyps ++ p ∷ [] })
             ≡ where_fits fits (state_of self.new)) }
@@ -122,7 +122,7 @@ impl LineChecker {
     }
 
     /// Reads a conclusion, if it fits.
-    fn con(&mut self, p: OwnedPoly) -> Result<bool, AllocError>
+    fn read_con(&mut self, p: OwnedPoly) -> Result<bool, AllocError>
         ensures { IfOk result (λ fits. where_fits (is_own_part p)
             (record (state_of self.old) { cons = (state_of self.old).cons ++ p ∷ [] })
             ≡ where_fits fits (state_of self.new)) }
@@ -149,7 +149,7 @@ impl LineChecker {
     }
 
     /// Lets the root wait, if it can.
-    fn at_root(&mut self) -> Result<bool, AllocError>
+    fn wait_at_root(&mut self) -> Result<bool, AllocError>
         ensures { IfOk result (λ fits. where_fits
             (nat_le (size_of (root (state_of self.old))) self.old.fuel)
             (record (state_of self.old) { waiting = root (state_of self.old) ∷ []; tally = no_tally })
@@ -166,7 +166,7 @@ impl LineChecker {
     }
 
     /// Leaves a piece that is split.
-    fn behind_split(
+    fn leave_split(
         &mut self,
         path: &Path,
         plus: Node,
@@ -178,35 +178,35 @@ impl LineChecker {
           tally = tally_after (state_of self.old).tally path.now (Parts gain);
         }) }
     {
-        self.tally.split(path, gain)?;
+        self.tally.add_split(path, gain)?;
         self.waiting.push(minus)?;
         self.waiting.push(plus)?;
         Ok(())
     }
 
     /// Leaves a leaf.
-    fn behind_leaf(&mut self, path: Path, ending: Ending) -> Result<(), AllocError>
+    fn leave_leaf(&mut self, path: Path, ending: Ending) -> Result<(), AllocError>
         ensures { OnOk result (state_of self.new ≡ record (state_of self.old) {
           tally = tally_after (state_of self.old).tally path (ending_view ending);
         }) }
     {
-        self.tally.leaf(self.alloc, path, ending)
+        self.tally.add_leaf(self.alloc, path, ending)
     }
 
     /// Leaves the piece that is open, if it has ended.
-    fn settled(&mut self) -> Result<bool, AllocError>
+    fn settle(&mut self) -> Result<bool, AllocError>
         ensures { IfOk result (λ fits. settled (state_of self.old) (state_of self.old).part
             ≡ where_fits fits (state_of self.new)) }
     {
         match mem::replace(&mut self.part, Part::Between) {
-            Part::Opening => self.at_root(),
+            Part::Opening => self.wait_at_root(),
             Part::Within(path, inside) => match end_of(inside) {
                 Some(PieceEnd::Parted { plus, minus, gain }) => {
-                    self.behind_split(&path, plus, minus, gain)?;
+                    self.leave_split(&path, plus, minus, gain)?;
                     Ok(true)
                 }
                 Some(PieceEnd::Leaf(ending)) => {
-                    self.behind_leaf(path, ending)?;
+                    self.leave_leaf(path, ending)?;
                     Ok(true)
                 }
                 None => Ok(false),
@@ -216,7 +216,7 @@ impl LineChecker {
     }
 
     /// Opens the piece of a path, if that is the path of the node that waits first.
-    fn within_next(&mut self, path: Path) -> bool
+    fn enter_next(&mut self, path: Path) -> bool
         ensures { node_row (state_of self.old) path (state_of self.old).waiting
             ≡ where_fits result (state_of self.new) }
     {
@@ -231,12 +231,12 @@ impl LineChecker {
     }
 
     /// Reads a line `node`, if it fits.
-    fn node(&mut self, path: Path) -> Result<bool, AllocError>
+    fn read_node(&mut self, path: Path) -> Result<bool, AllocError>
         ensures { IfOk result (λ fits.
             node_settled path (settled (state_of self.old) (state_of self.old).part)
             ≡ where_fits fits (state_of self.new)) }
     {
-        Ok(self.settled()? && self.within_next(path))
+        Ok(self.settle()? && self.enter_next(path))
     }
 
     /// No node waits, and the verdict is that of the tally.
@@ -248,16 +248,16 @@ impl LineChecker {
     }
 
     /// Reads a line `verdict`, if it fits.
-    fn verdict(&mut self, verdict: &Verdict) -> Result<bool, AllocError>
+    fn read_verdict(&mut self, verdict: &Verdict) -> Result<bool, AllocError>
         ensures { IfOk result (λ fits.
             verdict_settled verdict.now (settled (state_of self.old) (state_of self.old).part)
             ≡ where_fits fits (state_of self.new)) }
     {
-        Ok(self.settled()? && self.tells(verdict))
+        Ok(self.settle()? && self.tells(verdict))
     }
 
     /// Reads a line inside a piece, if it fits.
-    fn within(&mut self, line: LogLine) -> Result<bool, AllocError>
+    fn read_within(&mut self, line: LogLine) -> Result<bool, AllocError>
         ensures { IfOk result (λ fits. inside_row (state_of self.old) line (state_of self.old).part
             ≡ where_fits fits (state_of self.new)) }
     {
@@ -279,14 +279,14 @@ impl LineChecker {
             ≡ where_fits fits (state_of self.new)) }
     {
         match line {
-            LogLine::Head(version) => self.version(version),
-            LogLine::Proves(proofs) => self.proofs(proofs),
-            LogLine::Prove(_) => self.opening(),
+            LogLine::Head(version) => self.read_version(version),
+            LogLine::Proves(proofs) => self.read_proofs(proofs),
+            LogLine::Prove(_) => self.open_problem(),
             LogLine::Vars(_) | LogLine::End => {}
-            LogLine::Hyp(p) => return self.hyp(p),
-            LogLine::Con(p) => return self.con(p),
-            LogLine::Node(path) => return self.node(path),
-            LogLine::Verdict(verdict) => return self.verdict(&verdict),
+            LogLine::Hyp(p) => return self.read_hyp(p),
+            LogLine::Con(p) => return self.read_con(p),
+            LogLine::Node(path) => return self.read_node(path),
+            LogLine::Verdict(verdict) => return self.read_verdict(&verdict),
             LogLine::Drop(_)
             | LogLine::Red { .. }
             | LogLine::Tail { .. }
@@ -300,7 +300,7 @@ impl LineChecker {
             | LogLine::Unreduced { .. }
             | LogLine::Open { .. }
             | LogLine::Eq(_)
-            | LogLine::Ne(_) => return self.within(line),
+            | LogLine::Ne(_) => return self.read_within(line),
         }
         Ok(true)
     }

@@ -41,7 +41,7 @@ impl Progress {
     fn line(&mut self, line: LogLine) -> Result<bool, AllocError>
         ensures { IfOk result (λ fits. Goes self.old line fits self.new) }
     {
-        self.told.line(&line)?;
+        self.told.add_line(&line)?;
         self.checker.line(line)
     }
 

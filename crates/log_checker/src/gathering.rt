@@ -58,7 +58,7 @@ impl Gathering {
     }
 
     /// Adds the problem that is told and its verdict.
-    fn verdict(&mut self, verdict: &Verdict) -> Result<(), AllocError>
+    fn add_verdict(&mut self, verdict: &Verdict) -> Result<(), AllocError>
         ensures { OnOk result (gathered_of self.new
             ≡ with_verdict (gathered_of self.old) verdict.now) }
     {
@@ -74,7 +74,7 @@ impl Gathering {
     }
 
     /// Adds what one line more tells.
-    pub fn line(&mut self, line: &LogLine) -> Result<(), AllocError>
+    pub fn add_line(&mut self, line: &LogLine) -> Result<(), AllocError>
         ensures { OnOk result (gathered_of self.new
             ≡ gathered_after (gathered_of self.old) line.now) }
     {
@@ -82,7 +82,7 @@ impl Gathering {
             LogLine::Vars(vars) => self.vars = *vars,
             LogLine::Hyp(p) => self.hyps.push(p.copy(self.alloc)?)?,
             LogLine::Con(p) => self.cons.push(p.copy(self.alloc)?)?,
-            LogLine::Verdict(verdict) => self.verdict(verdict)?,
+            LogLine::Verdict(verdict) => self.add_verdict(verdict)?,
             _ => {}
         }
         Ok(())

@@ -148,7 +148,7 @@ impl Tally {
     }
 
     /// Adds a piece that is split, whose `+` child gains a condition.
-    pub fn split(&mut self, path: &Path, gain: OwnedPoly) -> Result<(), AllocError>
+    pub fn add_split(&mut self, path: &Path, gain: OwnedPoly) -> Result<(), AllocError>
         ensures { OnOk result (tally_view self.new
             ≡ tally_after (tally_view self.old) path.now (Parts gain)) }
     {
@@ -159,7 +159,7 @@ impl Tally {
     }
 
     /// Adds a leaf of the generic branch: the first one stays.
-    fn generic_leaf(&mut self, path: Path, ending: Ending)
+    fn add_generic(&mut self, path: Path, ending: Ending)
         ensures { tally_view self.new
             ≡ leaf_tally (tally_view self.old) path (ending_view ending) false }
     {
@@ -170,7 +170,7 @@ impl Tally {
 
     /// Adds a leaf off the generic branch. Where it leaves some conclusion, what was gained where its path leaves the
     /// branch is a condition.
-    fn other_leaf(&mut self, alloc: Global, path: &Path, ending: &Ending) -> Result<(), AllocError>
+    fn add_other(&mut self, alloc: Global, path: &Path, ending: &Ending) -> Result<(), AllocError>
         ensures { OnOk result (tally_view self.new
             ≡ leaf_tally (tally_view self.old) path.now (ending_view ending.now) true) }
     {
@@ -183,14 +183,14 @@ impl Tally {
     }
 
     /// Adds a leaf.
-    pub fn leaf(&mut self, alloc: Global, path: Path, ending: Ending) -> Result<(), AllocError>
+    pub fn add_leaf(&mut self, alloc: Global, path: Path, ending: Ending) -> Result<(), AllocError>
         ensures { OnOk result (tally_view self.new
             ≡ tally_after (tally_view self.old) path (ending_view ending)) }
     {
         if has_minus(&path) {
-            self.other_leaf(alloc, &path, &ending)
+            self.add_other(alloc, &path, &ending)
         } else {
-            self.generic_leaf(path, ending);
+            self.add_generic(path, ending);
             Ok(())
         }
     }
