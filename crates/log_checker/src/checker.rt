@@ -15,12 +15,12 @@ use crate::node::with_fuel;
 use crate::piece::Inside;
 use crate::tally::Tally;
 use crate::within::line_within;
-use poly_model::{MOST_FUEL, OwnedPoly, Row};
+use poly_model::{EXPAND_UNITS, MOST_FUEL, OwnedPoly, Row};
 use proof_log::LogLine;
 use proof_steps::{Node, Path};
 use std::alloc::{AllocError, Global};
 use std::mem;
-use term_store::VecStore;
+use term_store::{TermStore, VecStore};
 use verdicts::Verdict;
 
 /// A log stands at a problem, in the piece of a path, or where no piece is open.
@@ -60,13 +60,17 @@ fn fuel_of_each(proofs: u8) -> u32
 
 #[tactic(auto, unfolding(crate::specs::Checkers::state_of))]
 impl LineChecker {
-    /// Before the first line.
+    /// Before the first line. The store is wide, so that its lists are seldom moved.
     pub fn new(alloc: Global) -> Result<LineChecker, AllocError>
         ensures { IfOk result (λ c. state_of c ≡ begin) }
     {
+        let mut store = VecStore::new(alloc)?;
+        let Ok(()) = store.reserve(EXPAND_UNITS) else {
+            return Err(AllocError);
+        };
         Ok(LineChecker {
             alloc,
-            store: VecStore::new(alloc)?,
+            store,
             version: 0,
             fuel: 0,
             hyps: Vec::new(alloc),

@@ -1,4 +1,4 @@
-ghost use Rattle.std.specs.Prelude.{◌≡◌, ◌≢◌, ◌<◌, ◌≤◌, ◌↔◌, IsTrue, IfOk, IsErrOf, length, codes, true};
+ghost use Rattle.std.specs.Prelude.{◌≡◌, ◌≢◌, ◌<◌, ◌≤◌, ◌↔◌, IsTrue, IfOk, IfErr, IsErrOf, length, codes, true, []};
 ghost use Rattle.poly_model.specs.Names.{are_variables};
 ghost use Rattle.poly_model.specs.Polynomial.{Polynomial, is_over};
 ghost use Rattle.poly_model.specs.Standard.{polynomial_of, is_standard};
@@ -15,6 +15,20 @@ fn same_bytes(a: &[u8], b: &[u8]) -> bool
     a == b
 }
 
+/// How many bytes a short term takes, with its sign: room for terms is taken by it.
+const SHORT_TERM: usize = 12;
+
+/// An empty list, with room for about as many terms as a text spells.
+fn room_for(alloc: Global, text: &[u8]) -> Result<Vec<Term>, PolyFault>
+    ensures spells { IfOk result (λ terms. terms.items ≡ []) }
+    ensures memory { IfErr result (λ fault. fault ≡ PolyFault.OutOfMemory) }
+{
+    match Vec::with_capacity(alloc, (text.len() / SHORT_TERM).min(MOST_TERMS)) {
+        Ok(terms) => Ok(terms),
+        Err(_) => Err(PolyFault::OutOfMemory),
+    }
+}
+
 /// The terms of a text that is not `0`.
 fn read_terms(alloc: Global, text: &[u8], vars: &Vars) -> Result<Vec<Term>, PolyFault>
     requires { IsTrue (are_variables vars.now) }
@@ -27,7 +41,7 @@ fn read_terms(alloc: Global, text: &[u8], vars: &Vars) -> Result<Vec<Term>, Poly
         → IsTrue (is_standard p) → IsTrue (is_over (length vars.now) p)
         → text.now ≢ terms_text true vars.now p }
 {
-    let mut terms = Vec::new(alloc);
+    let mut terms = room_for(alloc, text)?;
     let mut rest = text;
     while !rest.is_empty() {
         if terms.len() >= MOST_TERMS {
