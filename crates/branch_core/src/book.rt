@@ -30,7 +30,11 @@ impl<P> Model for Book<P> {
 
     ghost view = { λ b. b.history.items };
 
-    ghost invariant = { λ b. (replay b.history.items ≡ Some (state_is b.waiting.items b.held.items (done_of b.history.items) b.stopped)) × HasRoom b.stopped (vec_len b.waiting) (vec_capacity b.waiting) (vec_len b.held) (vec_capacity b.held) (vec_len b.history) (vec_capacity b.history) };
+    ghost invariant = { λ b.
+        (replay b.history.items
+        ≡ Some (state_is b.waiting.items b.held.items (done_of b.history.items) b.stopped))
+        × HasRoom b.stopped (vec_len b.waiting) (vec_capacity b.waiting) (vec_len b.held)
+        (vec_capacity b.held) (vec_len b.history) (vec_capacity b.history) };
 }
 
 impl<P> Book<P> {

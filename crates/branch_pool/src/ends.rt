@@ -79,7 +79,8 @@ impl<I> Model for Door<I> {
 
     ghost view = { λ d. end_is (stealer_deque d.thief) (handles.view d.pass) };
 
-    ghost invariant = { λ d. IsPassOf (stealer_deque d.thief) d.pass × (stealer_flavor d.thief ≡ 0) };
+    ghost invariant = { λ d. IsPassOf (stealer_deque d.thief) d.pass
+        × (stealer_flavor d.thief ≡ 0) };
 }
 
 impl<I: Drop> Door<I> {

@@ -147,7 +147,8 @@ fn doors_beside<I: Drop>(
 }
 
 fn add_doors<I: Drop>(beside: &mut Vec<Door<I>>, doors: &[Door<I>]) -> Result<(), AllocError>
-    ensures { OnOk result (beside.new.items ≡ beside.old.items ++ map (λ d. new_end d.deque) doors.now) }
+    ensures { OnOk result
+        (beside.new.items ≡ beside.old.items ++ map (λ d. new_end d.deque) doors.now) }
 {
     for door in doors {
         beside.push(door.another()?)?;

@@ -10,7 +10,8 @@ use std::alloc::{AllocError, Global};
 
 /// Whether these are all pieces of the root's tree, in preorder.
 pub fn whole<W: Work>(alloc: Global, pieces: &Vec<Done<W>>) -> Result<bool, AllocError>
-    ensures { IfOk result (λ b. b ≡ true → map (λ d. d.2) pieces.now.items ≡ preorder (W.tree W.root)) }
+    ensures { IfOk result
+        (λ b. b ≡ true → map (λ d. d.2) pieces.now.items ≡ preorder (W.tree W.root)) }
 {
     let mut stack = Vec::new(alloc);
     stack.push(Path::root())?;

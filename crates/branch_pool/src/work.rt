@@ -116,7 +116,8 @@ impl<W: Work> Branch<W> {
         ensures path { IfOk result (λ r. r.0.0 ≡ W.path_of self.now) }
         ensures tree { IfOk result (λ r. Children W.tree (W.tree self.now) r.0.2 r.1) }
         ensures forks { IfOk result (λ r. r.0.1 ≡ is_some r.1) }
-        ensures short { IfOk result (λ r. IfSome r.1 (λ _. length (W.path_of self.now) < MOST_LETTERS)) }
+        ensures short { IfOk result
+            (λ r. IfSome r.1 (λ _. length (W.path_of self.now) < MOST_LETTERS)) }
     {
         let path = work.path(&self.item);
         let (piece, children) = work.expand(alloc, room, &self.item)?;

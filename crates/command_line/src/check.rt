@@ -30,9 +30,11 @@ fn check_answered<D: Domain, K: Desk, S: Sink, N: Sink>(
         (IsAnswer (Some (CheckOf log.now (option_copied file.entry))))
         (S.written out.old) (S.written out.new) (N.written notes.old) (N.written notes.new) result }
     ensures read_fault { result ≡ Status.ReadFault → Rose (K.faults desk.old) (K.faults desk.new)
-        ⊎ LacksOne (K.held desk.old) (names_of (Some (CheckOf log.now (option_copied file.entry)))) }
+        ⊎ LacksOne (K.held desk.old)
+        (names_of (Some (CheckOf log.now (option_copied file.entry)))) }
     ensures write_fault { result ≡ Status.WriteFault
-        → Rose (S.faults out.old) (S.faults out.new) ⊎ Rose (N.faults notes.old) (N.faults notes.new) }
+        → Rose (S.faults out.old) (S.faults out.new)
+        ⊎ Rose (N.faults notes.old) (N.faults notes.new) }
     ensures untouched { IsQuiet result → out.new ≡ out.old }
     ensures unsaid { result ≡ Status.OutOfMemory → notes.new ≡ notes.old }
     ensures same { K.held desk.new ≡ K.held desk.old }

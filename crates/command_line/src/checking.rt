@@ -45,7 +45,8 @@ pub fn fetch_log<D: Domain, K: Desk, N: Sink>(
 ) -> Result<Found, Status>
     ensures found { (log : List ℕ) → Holds (K.held desk.old) name.now log
         → IfOk result (λ found. Finds found log) }
-    ensures fits { (log : List ℕ) → Holds (K.held desk.old) name.now log → MOST_LOG_BYTES < length log
+    ensures fits { (log : List ℕ) → Holds (K.held desk.old) name.now log
+        → MOST_LOG_BYTES < length log
         → OnOk result ⊥ }
     ensures own { IfOk result HoldsOwn }
     ensures absent { Lacks (K.held desk.old) name.now → OnOk result ⊥ }
@@ -58,9 +59,11 @@ pub fn fetch_log<D: Domain, K: Desk, N: Sink>(
     ensures unsaid { IsErrOf result Status.OutOfMemory → notes.new ≡ notes.old }
     ensures read_fault { IsErrOf result Status.ReadFault
         → Rose (K.faults desk.old) (K.faults desk.new) ⊎ Lacks (K.held desk.old) name.now }
-    ensures write_fault { IsErrOf result Status.WriteFault → Rose (N.faults notes.old) (N.faults notes.new) }
+    ensures write_fault { IsErrOf result Status.WriteFault
+        → Rose (N.faults notes.old) (N.faults notes.new) }
     ensures same { K.held desk.new ≡ K.held desk.old }
-    ensures later { (K.faults desk.old ≤ K.faults desk.new) × (N.faults notes.old ≤ N.faults notes.new) }
+    ensures later { (K.faults desk.old ≤ K.faults desk.new)
+        × (N.faults notes.old ≤ N.faults notes.new) }
 {
     match check_log(alloc, domain, desk, name) {
         Ok(checked) => Ok(Found::Accepted(checked)),
@@ -74,10 +77,13 @@ pub fn fetch_log<D: Domain, K: Desk, N: Sink>(
 
 // Says at which line the log is at fault.
 fn say_rejected<N: Sink>(alloc: Global, line: u32, word: &[u8], notes: &mut N) -> Status
-    ensures ends { (out : Option (List ℕ)) → Ends (only_notes Status.Rejected (rejected_line line word.now))
+    ensures ends { (out : Option (List ℕ))
+        → Ends (only_notes Status.Rejected (rejected_line line word.now))
         out out (N.written notes.old) (N.written notes.new) result }
-    ensures status { (result ≡ Status.Rejected) ⊎ (result ≡ Status.WriteFault) ⊎ (result ≡ Status.OutOfMemory) }
-    ensures write_fault { result ≡ Status.WriteFault → Rose (N.faults notes.old) (N.faults notes.new) }
+    ensures status { (result ≡ Status.Rejected) ⊎ (result ≡ Status.WriteFault)
+        ⊎ (result ≡ Status.OutOfMemory) }
+    ensures write_fault { result ≡ Status.WriteFault
+        → Rose (N.faults notes.old) (N.faults notes.new) }
     ensures unsaid { result ≡ Status.OutOfMemory → notes.new ≡ notes.old }
     ensures later { N.faults notes.old ≤ N.faults notes.new }
 {
@@ -153,7 +159,8 @@ fn put_assured<S: Sink>(alloc: Global, checked: &Checked, out: &mut S) -> Status
     ensures ends { (notes : Option (List ℕ))
         → Ends (text_answer (assured_text checked.now.problems checked.now.verdicts))
         (S.written out.old) (S.written out.new) notes notes result }
-    ensures status { (result ≡ Status.Done) ⊎ (result ≡ Status.WriteFault) ⊎ (result ≡ Status.OutOfMemory) }
+    ensures status { (result ≡ Status.Done) ⊎ (result ≡ Status.WriteFault)
+        ⊎ (result ≡ Status.OutOfMemory) }
     ensures write_fault { result ≡ Status.WriteFault → Rose (S.faults out.old) (S.faults out.new) }
     ensures untouched { result ≡ Status.OutOfMemory → out.new ≡ out.old }
     ensures later { S.faults out.old ≤ S.faults out.new }
@@ -178,11 +185,13 @@ pub fn put_found<S: Sink, N: Sink>(
     ensures ends { Ends (answer_of found.now)
         (S.written out.old) (S.written out.new) (N.written notes.old) (N.written notes.new) result }
     ensures write_fault { result ≡ Status.WriteFault
-        → Rose (S.faults out.old) (S.faults out.new) ⊎ Rose (N.faults notes.old) (N.faults notes.new) }
+        → Rose (S.faults out.old) (S.faults out.new)
+        ⊎ Rose (N.faults notes.old) (N.faults notes.new) }
     ensures status { IsCheckingStatus result }
     ensures untouched { IsQuiet result → out.new ≡ out.old }
     ensures unsaid { result ≡ Status.OutOfMemory → notes.new ≡ notes.old }
-    ensures later { (S.faults out.old ≤ S.faults out.new) × (N.faults notes.old ≤ N.faults notes.new) }
+    ensures later { (S.faults out.old ≤ S.faults out.new)
+        × (N.faults notes.old ≤ N.faults notes.new) }
 {
     match found {
         Found::Accepted(checked) => put_assured(alloc, checked, out),

@@ -61,11 +61,13 @@ fn put_compared<S: Sink, N: Sink>(
     ensures ends { GivesOne (IsAnswerFor (stated_in bytes.now) bytes.now found.now)
         (S.written out.old) (S.written out.new) (N.written notes.old) (N.written notes.new) result }
     ensures write_fault { result ≡ Status.WriteFault
-        → Rose (S.faults out.old) (S.faults out.new) ⊎ Rose (N.faults notes.old) (N.faults notes.new) }
+        → Rose (S.faults out.old) (S.faults out.new)
+        ⊎ Rose (N.faults notes.old) (N.faults notes.new) }
     ensures status { IsComparingStatus result }
     ensures untouched { IsQuiet result → out.new ≡ out.old }
     ensures unsaid { result ≡ Status.OutOfMemory → notes.new ≡ notes.old }
-    ensures later { (S.faults out.old ≤ S.faults out.new) × (N.faults notes.old ≤ N.faults notes.new) }
+    ensures later { (S.faults out.old ≤ S.faults out.new)
+        × (N.faults notes.old ≤ N.faults notes.new) }
 {
     match has_problems_of(alloc, found, bytes) {
         Ok(true) => put_found(alloc, found, out, notes),
@@ -92,7 +94,8 @@ pub fn compare<K: Desk, S: Sink, N: Sink>(
     ensures read_fault { result ≡ Status.ReadFault
         → Rose (K.faults desk.old) (K.faults desk.new) ⊎ Lacks (K.held desk.old) name.now }
     ensures write_fault { result ≡ Status.WriteFault
-        → Rose (S.faults out.old) (S.faults out.new) ⊎ Rose (N.faults notes.old) (N.faults notes.new) }
+        → Rose (S.faults out.old) (S.faults out.new)
+        ⊎ Rose (N.faults notes.old) (N.faults notes.new) }
     ensures status { IsReadingFault result ⊎ IsComparingStatus result }
     ensures untouched { IsQuiet result → out.new ≡ out.old }
     ensures unsaid { result ≡ Status.OutOfMemory → notes.new ≡ notes.old }

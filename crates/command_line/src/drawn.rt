@@ -1,6 +1,6 @@
 // What the text of a picture is written from.
 ghost use Rattle.std.specs.Prelude.{length};
-ghost use Rattle.picture.specs.OneProof.{drawable-prop};
+ghost use Rattle.picture.specs.OneProof.{drawn-prop};
 ghost use Rattle.picture.specs.Shapes.{IsDrawable};
 
 use fixed_point::Row;
@@ -12,5 +12,5 @@ use picture::Picture;
 pub struct Drawn {
     pub picture: Picture,
     pub names: Row<Name>,
-    ghost drawable: { IsDrawable (length names) picture } by { drawable-prop (length names) picture },
+    ghost drawable: { IsDrawable (length names) picture } by { drawn-prop (length names) picture },
 }

@@ -81,9 +81,12 @@ fn put_proofs<S: Sink, N: Sink>(alloc: Global, log: &Log, out: &mut S, notes: &m
     ensures status { (result ≡ Status.Done) ⊎ (result ≡ Status.Unproved)
         ⊎ (result ≡ Status.WriteFault) ⊎ (result ≡ Status.OutOfMemory) }
     ensures write_fault { result ≡ Status.WriteFault
-        → Rose (S.faults out.old) (S.faults out.new) ⊎ Rose (N.faults notes.old) (N.faults notes.new) }
-    ensures untouched { result ≡ Status.OutOfMemory → (out.new ≡ out.old) × (notes.new ≡ notes.old) }
-    ensures later { (S.faults out.old ≤ S.faults out.new) × (N.faults notes.old ≤ N.faults notes.new) }
+        → Rose (S.faults out.old) (S.faults out.new)
+        ⊎ Rose (N.faults notes.old) (N.faults notes.new) }
+    ensures untouched { result ≡ Status.OutOfMemory
+        → (out.new ≡ out.old) × (notes.new ≡ notes.old) }
+    ensures later { (S.faults out.old ≤ S.faults out.new)
+        × (N.faults notes.old ≤ N.faults notes.new) }
 {
     let Ok(lines) = all_verdict_lines(alloc, log.proofs.as_slice()) else {
         return Status::OutOfMemory;
@@ -111,11 +114,13 @@ pub fn put_file_proofs<P: Prover, S: Sink, N: Sink>(
     ensures ends { Ends (answer_from proved bytes.now (proofs_of bytes.now))
         (S.written out.old) (S.written out.new) (N.written notes.old) (N.written notes.new) result }
     ensures write_fault { result ≡ Status.WriteFault
-        → Rose (S.faults out.old) (S.faults out.new) ⊎ Rose (N.faults notes.old) (N.faults notes.new) }
+        → Rose (S.faults out.old) (S.faults out.new)
+        ⊎ Rose (N.faults notes.old) (N.faults notes.new) }
     ensures status { IsProvingStatus result }
     ensures untouched { IsQuiet result → out.new ≡ out.old }
     ensures unsaid { result ≡ Status.OutOfMemory → notes.new ≡ notes.old }
-    ensures later { (S.faults out.old ≤ S.faults out.new) × (N.faults notes.old ≤ N.faults notes.new) }
+    ensures later { (S.faults out.old ≤ S.faults out.new)
+        × (N.faults notes.old ≤ N.faults notes.new) }
 {
     match prove_file(prover, alloc, bytes) {
         Ok(log) => put_proofs::<S, N>(alloc, &log, out, notes),

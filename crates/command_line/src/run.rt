@@ -42,13 +42,15 @@ fn file_answered<C: TextCommand, K: Desk, S: Sink, N: Sink>(
     ensures read_fault { result ≡ Status.ReadFault
         → Rose (K.faults desk.old) (K.faults desk.new) ⊎ Lacks (K.held desk.old) name.now }
     ensures write_fault { result ≡ Status.WriteFault
-        → Rose (S.faults out.old) (S.faults out.new) ⊎ Rose (N.faults notes.old) (N.faults notes.new) }
+        → Rose (S.faults out.old) (S.faults out.new)
+        ⊎ Rose (N.faults notes.old) (N.faults notes.new) }
     ensures untouched { IsQuiet result → out.new ≡ out.old }
     ensures unsaid { result ≡ Status.OutOfMemory → notes.new ≡ notes.old }
     ensures same { K.held desk.new ≡ K.held desk.old }
     ensures later { (K.faults desk.old ≤ K.faults desk.new) × (S.faults out.old ≤ S.faults out.new)
         × (N.faults notes.old ≤ N.faults notes.new) }
-    ensures text { IsTextRun (lent desk.old out.old notes.old) (lent desk.new out.new notes.new) result }
+    ensures text { IsTextRun (lent desk.old out.old notes.old)
+        (lent desk.new out.new notes.new) result }
 {
     match fetch(alloc, name, MOST_BYTES, desk, notes) {
         Ok(bytes) => put_file::<C, S, N>(alloc, &bytes, out, notes),
@@ -67,7 +69,8 @@ pub fn file_run<C: TextCommand, K: Desk, S: Sink, N: Sink>(
     ensures run { IsRun (views K.held K.faults S.written S.faults N.written N.faults)
         (lent desk.old out.old notes.old) (lent desk.new out.new notes.new)
         (Some (TextOf C.made name.now)) result }
-    ensures text { IsTextRun (lent desk.old out.old notes.old) (lent desk.new out.new notes.new) result }
+    ensures text { IsTextRun (lent desk.old out.old notes.old)
+        (lent desk.new out.new notes.new) result }
 {
     file_answered::<C, K, S, N>(alloc, name, desk, out, notes)
 }
@@ -83,7 +86,8 @@ pub fn svg_run<K: Desk, S: Sink, N: Sink>(
     ensures run { IsRun (views K.held K.faults S.written S.faults N.written N.faults)
         (lent desk.old out.old notes.old) (lent desk.new out.new notes.new)
         (Some (TextOf svg_of name.now)) result }
-    ensures text { IsTextRun (lent desk.old out.old notes.old) (lent desk.new out.new notes.new) result }
+    ensures text { IsTextRun (lent desk.old out.old notes.old)
+        (lent desk.new out.new notes.new) result }
 {
     file_run::<SvgCommand, K, S, N>(alloc, name, desk, out, notes)
 }
@@ -99,7 +103,8 @@ pub fn latex_run<K: Desk, S: Sink, N: Sink>(
     ensures run { IsRun (views K.held K.faults S.written S.faults N.written N.faults)
         (lent desk.old out.old notes.old) (lent desk.new out.new notes.new)
         (Some (TextOf latex_of name.now)) result }
-    ensures text { IsTextRun (lent desk.old out.old notes.old) (lent desk.new out.new notes.new) result }
+    ensures text { IsTextRun (lent desk.old out.old notes.old)
+        (lent desk.new out.new notes.new) result }
 {
     file_run::<LatexCommand, K, S, N>(alloc, name, desk, out, notes)
 }
@@ -115,7 +120,8 @@ pub fn system_run<K: Desk, S: Sink, N: Sink>(
     ensures run { IsRun (views K.held K.faults S.written S.faults N.written N.faults)
         (lent desk.old out.old notes.old) (lent desk.new out.new notes.new)
         (Some (TextOf system_of name.now)) result }
-    ensures text { IsTextRun (lent desk.old out.old notes.old) (lent desk.new out.new notes.new) result }
+    ensures text { IsTextRun (lent desk.old out.old notes.old)
+        (lent desk.new out.new notes.new) result }
 {
     file_run::<SystemCommand, K, S, N>(alloc, name, desk, out, notes)
 }
@@ -131,7 +137,8 @@ pub fn show_run<K: Desk, S: Sink, N: Sink>(
     ensures run { IsRun (views K.held K.faults S.written S.faults N.written N.faults)
         (lent desk.old out.old notes.old) (lent desk.new out.new notes.new)
         (Some (TextOf show_of name.now)) result }
-    ensures text { IsTextRun (lent desk.old out.old notes.old) (lent desk.new out.new notes.new) result }
+    ensures text { IsTextRun (lent desk.old out.old notes.old)
+        (lent desk.new out.new notes.new) result }
 {
     file_run::<ShowCommand, K, S, N>(alloc, name, desk, out, notes)
 }
@@ -152,7 +159,8 @@ fn proofs_answered<P: Prover, K: Desk, S: Sink, N: Sink>(
     ensures read_fault { result ≡ Status.ReadFault
         → Rose (K.faults desk.old) (K.faults desk.new) ⊎ Lacks (K.held desk.old) name.now }
     ensures write_fault { result ≡ Status.WriteFault
-        → Rose (S.faults out.old) (S.faults out.new) ⊎ Rose (N.faults notes.old) (N.faults notes.new) }
+        → Rose (S.faults out.old) (S.faults out.new)
+        ⊎ Rose (N.faults notes.old) (N.faults notes.new) }
     ensures untouched { IsQuiet result → out.new ≡ out.old }
     ensures unsaid { result ≡ Status.OutOfMemory → notes.new ≡ notes.old }
     ensures same { K.held desk.new ≡ K.held desk.old }
@@ -257,7 +265,8 @@ pub fn gclc_run<R: Threads + Wait + Sync, D: Domain, K: Desk, S: Sink, N: Sink>(
         → IsProofRun result }
     ensures checked { (log : List ℕ) (file : Option (List ℕ))
         → form_of (map string_bytes words.now) ≡ Some (CheckOf log file) → IsCheckRun file result }
-    ensures headline { Headline D.operations (form_of (map string_bytes words.now)) (K.held desk.old) result }
+    ensures headline { Headline D.operations (form_of (map string_bytes words.now))
+        (K.held desk.old) result }
 {
     a_yes_is_assured(domain);
     words_run::<R, D, K, S, N>(rt, alloc, domain, words, desk, out, notes)

@@ -39,7 +39,8 @@ pub trait TextCommand {
 
     /// Writes the text, and takes no memory.
     fn write<S: Sink>(prepared: &Self::Prepared, pen: &mut Pen, sink: &mut S) -> Result<(), Failed>
-        ensures bytes { Writes (S.written sink.old) (S.written sink.new) pen.old pen.new result (text prepared.now) }
+        ensures bytes { Writes (S.written sink.old) (S.written sink.new) pen.old pen.new result
+            (text prepared.now) }
         ensures cause { HasCause (S.faults sink.old) (S.faults sink.new) result };
 }
 
@@ -49,7 +50,8 @@ pub fn say<N: Sink>(line: &[u8], status: Status, notes: &mut N) -> Status
     ensures ends { (out : Option (List ℕ)) → Ends (only_notes status line.now) out out
         (N.written notes.old) (N.written notes.new) result }
     ensures status { (result ≡ status) ⊎ (result ≡ Status.WriteFault) }
-    ensures write_fault { result ≡ Status.WriteFault → Rose (N.faults notes.old) (N.faults notes.new) }
+    ensures write_fault { result ≡ Status.WriteFault
+        → Rose (N.faults notes.old) (N.faults notes.new) }
     ensures later { N.faults notes.old ≤ N.faults notes.new }
 {
     match notes.put(line) {
@@ -90,8 +92,10 @@ pub fn say_each<N: Sink>(lines: &[Vec<u8>], status: Status, notes: &mut N) -> St
 pub fn refuse<N: Sink>(alloc: Global, bytes: &[u8], refusal: Refusal, notes: &mut N) -> Status
     ensures ends { (out : Option (List ℕ)) → Ends (refused bytes.now refusal) out out
         (N.written notes.old) (N.written notes.new) result }
-    ensures status { (result ≡ Status.Refused) ⊎ (result ≡ Status.WriteFault) ⊎ (result ≡ Status.OutOfMemory) }
-    ensures write_fault { result ≡ Status.WriteFault → Rose (N.faults notes.old) (N.faults notes.new) }
+    ensures status { (result ≡ Status.Refused) ⊎ (result ≡ Status.WriteFault)
+        ⊎ (result ≡ Status.OutOfMemory) }
+    ensures write_fault { result ≡ Status.WriteFault
+        → Rose (N.faults notes.old) (N.faults notes.new) }
     ensures unsaid { result ≡ Status.OutOfMemory → notes.new ≡ notes.old }
     ensures later { N.faults notes.old ≤ N.faults notes.new }
 {
@@ -122,9 +126,11 @@ pub fn fetch<K: Desk, N: Sink>(
     ensures unsaid { IsErrOf result Status.OutOfMemory → notes.new ≡ notes.old }
     ensures read_fault { IsErrOf result Status.ReadFault
         → Rose (K.faults desk.old) (K.faults desk.new) ⊎ Lacks (K.held desk.old) name.now }
-    ensures write_fault { IsErrOf result Status.WriteFault → Rose (N.faults notes.old) (N.faults notes.new) }
+    ensures write_fault { IsErrOf result Status.WriteFault
+        → Rose (N.faults notes.old) (N.faults notes.new) }
     ensures same { K.held desk.new ≡ K.held desk.old }
-    ensures later { (K.faults desk.old ≤ K.faults desk.new) × (N.faults notes.old ≤ N.faults notes.new) }
+    ensures later { (K.faults desk.old ≤ K.faults desk.new)
+        × (N.faults notes.old ≤ N.faults notes.new) }
 {
     match read_whole(alloc, desk, name, most) {
         Ok(bytes) => Ok(bytes),
@@ -161,7 +167,8 @@ pub fn put_text<C: TextCommand, S: Sink>(
 ) -> Status
     ensures ends { (notes : Option (List ℕ)) → Ends (text_answer (C.text prepared.now))
         (S.written out.old) (S.written out.new) notes notes result }
-    ensures status { (result ≡ Status.Done) ⊎ (result ≡ Status.WriteFault) ⊎ (result ≡ Status.OutOfMemory) }
+    ensures status { (result ≡ Status.Done) ⊎ (result ≡ Status.WriteFault)
+        ⊎ (result ≡ Status.OutOfMemory) }
     ensures write_fault { result ≡ Status.WriteFault → Rose (S.faults out.old) (S.faults out.new) }
     ensures untouched { result ≡ Status.OutOfMemory → out.new ≡ out.old }
     ensures later { S.faults out.old ≤ S.faults out.new }
@@ -186,12 +193,15 @@ pub fn put_file<C: TextCommand, S: Sink, N: Sink>(
     ensures ends { Ends (answer_from text_answer bytes.now (C.made bytes.now))
         (S.written out.old) (S.written out.new) (N.written notes.old) (N.written notes.new) result }
     ensures write_fault { result ≡ Status.WriteFault
-        → Rose (S.faults out.old) (S.faults out.new) ⊎ Rose (N.faults notes.old) (N.faults notes.new) }
+        → Rose (S.faults out.old) (S.faults out.new)
+        ⊎ Rose (N.faults notes.old) (N.faults notes.new) }
     ensures status { IsWritingStatus result }
     ensures untouched { IsQuiet result → out.new ≡ out.old }
     ensures one_sink { (out.new ≡ out.old) ⊎ (notes.new ≡ notes.old) }
-    ensures unsaid { (result ≡ Status.Done) ⊎ (result ≡ Status.OutOfMemory) → notes.new ≡ notes.old }
-    ensures later { (S.faults out.old ≤ S.faults out.new) × (N.faults notes.old ≤ N.faults notes.new) }
+    ensures unsaid { (result ≡ Status.Done) ⊎ (result ≡ Status.OutOfMemory)
+        → notes.new ≡ notes.old }
+    ensures later { (S.faults out.old ≤ S.faults out.new)
+        × (N.faults notes.old ≤ N.faults notes.new) }
 {
     match C::prepare(alloc, bytes) {
         Ok(prepared) => put_text::<C, S>(alloc, &prepared, out),

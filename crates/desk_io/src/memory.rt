@@ -55,7 +55,8 @@ fn find_file<'a>(files: &'a [(String, Vec<u8>)], name: &str) -> Option<&'a Vec<u
 // Copies as much of the file, from an offset on, as there is room for.
 fn copy_from(file: &[u8], from: u64, piece: &mut [u8]) -> usize
     ensures count { result ≡ length (take (length piece.old) (drop from file.now)) }
-    ensures bytes { piece.new ≡ take (length piece.old) (drop from file.now) ++ drop result piece.old }
+    ensures bytes { piece.new
+        ≡ take (length piece.old) (drop from file.now) ++ drop result piece.old }
 {
     if from >= file.len() as u64 {
         return 0;

@@ -59,5 +59,6 @@ impl Fix {
 
 /// What `Fix::write` writes is read by `read_fix` as the same number.
 pub fn written_is_read_back()
-    ensures { (z : ℤ) → unsigned_abs z ≤ MOST_MILLIONTHS → fix_of (number_text MOST_DECIMALS z) ≡ Ok z }
+    ensures { (z : ℤ) → unsigned_abs z ≤ MOST_MILLIONTHS
+        → fix_of (number_text MOST_DECIMALS z) ≡ Ok z }
 {}

@@ -134,10 +134,14 @@ impl<'a> Lexer<'a> {
         requires some { 0 < len }
         requires within { len ≤ length self.old.rest.now }
         requires shown { shown ≤ len }
-        ensures token { token_of result
-            ≡ record { line = self.old.line; at = self.old.at; text = take shown self.old.rest.now } }
+        ensures token { token_of result ≡ record {
+          line = self.old.line;
+          at = self.old.at;
+          text = take shown self.old.rest.now;
+        } }
         ensures ahead { ahead self.new
-            ≡ ahead_of Between self.old.line self.old.line (self.old.at + len) (drop len self.old.rest.now) }
+            ≡ ahead_of Between self.old.line self.old.line (self.old.at + len)
+            (drop len self.old.rest.now) }
     {
         let (front, rest) = self.rest.split_at(len);
         let (text, _) = front.split_at(shown);

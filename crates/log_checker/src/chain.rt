@@ -162,7 +162,8 @@ pub fn step_row<S: TermStore>(
 
 /// Where the piece stands behind a line `proved`, if it fits.
 pub fn proved_row(system: &System) -> Option<Inside>
-    ensures { inside_views result ≡ by_chain (chain_work system.now) (λ E fuel due. proved_row due) }
+    ensures { inside_views result
+        ≡ by_chain (chain_work system.now) (λ E fuel due. proved_row due) }
 {
     match system_due(system) {
         Due::AllZero => Some(Inside::Ended(Ending::Proves)),

@@ -141,7 +141,8 @@ impl LineChecker {
     /// The root of the problem, where the fuel is at least its size.
     fn root(&self) -> Result<Option<Node>, AllocError>
         ensures { IfOk result (λ o. o ≡ where_fits
-            (nat_le (size_of (root (state_of self.now))) self.now.fuel) (root (state_of self.now))) }
+            (nat_le (size_of (root (state_of self.now))) self.now.fuel)
+            (root (state_of self.now))) }
     {
         let eqs = copies(self.alloc, &self.hyps)?;
         Ok(with_fuel(Node {
@@ -156,7 +157,8 @@ impl LineChecker {
     fn wait_at_root(&mut self) -> Result<bool, AllocError>
         ensures { IfOk result (λ fits. where_fits
             (nat_le (size_of (root (state_of self.old))) self.old.fuel)
-            (record (state_of self.old) { waiting = root (state_of self.old) ∷ []; tally = no_tally })
+            (record (state_of self.old)
+            { waiting = root (state_of self.old) ∷ []; tally = no_tally })
             ≡ where_fits fits (state_of self.new)) }
     {
         let Some(root) = self.root()? else {

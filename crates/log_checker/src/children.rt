@@ -49,7 +49,8 @@ fn minus_equations<S: TermStore>(
 /// What is left for the `+` child and for the `-` child, which has an eighth, or its size where that is more.
 fn shared(minus: &[OwnedPoly], nes: &[OwnedPoly], left: u32) -> Option<(u32, u32)>
     ensures { MatchOption result (left < 4 + sizes minus.now + sizes nes.now)
-        (λ fuel. (fuel.1 ≡ max (left / 8) (4 + sizes minus.now + sizes nes.now)) × (fuel.0 ≡ left - fuel.1)) }
+        (λ fuel. (fuel.1 ≡ max (left / 8) (4 + sizes minus.now + sizes nes.now))
+        × (fuel.0 ≡ left - fuel.1)) }
 {
     let beside = fuel_beside(minus, nes, left)?;
     let size = left - beside;

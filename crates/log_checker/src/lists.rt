@@ -28,7 +28,8 @@ fn are_listed(ps: &[OwnedPoly], listed: usize) -> bool
 impl Lists {
     /// Everything is listed.
     pub fn is_whole(&self) -> bool
-        ensures { (inside : Option Inside) → where_whole (eqs_due self.now) (nes_due self.now) inside
+        ensures { (inside : Option Inside)
+            → where_whole (eqs_due self.now) (nes_due self.now) inside
             ≡ (if result then inside else None) }
     {
         are_listed(self.eqs.as_slice(), self.eqs_listed)

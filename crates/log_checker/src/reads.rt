@@ -81,7 +81,8 @@ pub fn is_member(ps: &[OwnedPoly], p: &OwnedPoly) -> bool
 
 /// The i-th of these, if there is one.
 pub fn numbered(ps: &[OwnedPoly], i: u16) -> Option<&OwnedPoly>
-    ensures { MatchOption result (has ps.now i ≡ false) (λ p. (has ps.now i ≡ true) × (p.now ≡ item ps.now i)) }
+    ensures { MatchOption result (has ps.now i ≡ false)
+        (λ p. (has ps.now i ≡ true) × (p.now ≡ item ps.now i)) }
 {
     ps.get((i as usize).checked_sub(1)?)
 }

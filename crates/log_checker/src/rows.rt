@@ -23,7 +23,8 @@ use term_store::TermStore;
 
 /// The node behind a line `drop`, if it fits.
 pub fn drop_row(node: Node, i: u16) -> Option<Node>
-    ensures { (version : ℕ) → result ≡ where_fits (step_fits version node (step.Drop i)) (stepped node (step.Drop i)) }
+    ensures { (version : ℕ)
+        → result ≡ where_fits (step_fits version node (step.Drop i)) (stepped node (step.Drop i)) }
 {
     if may_drop(&node, i) {
         with_fuel(without(node, i))
@@ -50,7 +51,8 @@ pub fn red_row<S: TermStore>(
     r: OwnedPoly,
 ) -> Result<Option<Node>, AllocError>
     ensures { IfOk result (λ o. (version : ℕ) → o
-        ≡ where_fits (step_fits version node (step.Red g f m r)) (stepped node (step.Red g f m r))) }
+        ≡ where_fits (step_fits version node (step.Red g f m r))
+        (stepped node (step.Red g f m r))) }
 {
     let Trial::Gives(found) = try_red(alloc, s, &node, g, f, Some(&r))? else {
         return Ok(None);

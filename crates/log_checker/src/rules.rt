@@ -93,7 +93,8 @@ pub fn try_red<S: TermStore>(
 
 /// The f-th equation, where it is not a constant.
 fn nonconstant(node: &Node, f: u16) -> Option<&OwnedPoly>
-    ensures { MatchOption result ((has node.now.eqs f && not (is_constant (item node.now.eqs f))) ≡ false)
+    ensures { MatchOption result
+        ((has node.now.eqs f && not (is_constant (item node.now.eqs f))) ≡ false)
         (λ p. ((has node.now.eqs f && not (is_constant (item node.now.eqs f))) ≡ true)
         × (is_constant p.now ≡ false) × (p.now ≡ item node.now.eqs f)) }
 {
@@ -108,8 +109,10 @@ pub fn try_tail<S: TermStore>(
     node: &Node,
     f: u16,
 ) -> Result<Option<OwnedPoly>, AllocError>
-    ensures { IfOk result (λ o. (version : ℕ) → MatchOption o (is_valid version node.now (Tail f) ≡ false)
-        (λ r. (is_valid version node.now (Tail f) ≡ true) × (r ≡ primitive_tail (item node.now.eqs f)))) }
+    ensures { IfOk result
+        (λ o. (version : ℕ) → MatchOption o (is_valid version node.now (Tail f) ≡ false)
+        (λ r. (is_valid version node.now (Tail f) ≡ true)
+        × (r ≡ primitive_tail (item node.now.eqs f)))) }
 {
     let Some(p) = nonconstant(node, f) else {
         return Ok(None);
@@ -131,7 +134,8 @@ pub fn try_split<S: TermStore>(
 ) -> Result<Trial<OwnedPoly>, AllocError>
     ensures { IfOk result (λ t. (version : ℕ) → Tries (is_valid version node.now (Split f))
         (limit_of version node.now (Split f))
-        (λ r. (r ≡ primitive_initial (item node.now.eqs f)) × (length node.now.path < MOST_LETTERS)) t) }
+        (λ r. (r ≡ primitive_initial (item node.now.eqs f))
+        × (length node.now.path < MOST_LETTERS)) t) }
 {
     let Some(p) = nonconstant(node, f) else {
         return Ok(Trial::Invalid);

@@ -22,5 +22,5 @@ named-prop n (shape.Dot a) = hlevel props
 named-prop n (shape.Ring a) = hlevel props
 named-prop n (shape.Label a s p) = hlevel props
 
-pub drawable-prop : (n : ℕ) (p : Picture) → IsProp (IsDrawable n p)
-drawable-prop n p = hlevel (props, nearby-prop, named-prop)
+pub drawn-prop : (n : ℕ) (p : Picture) → IsProp (IsDrawable n p)
+drawn-prop n p = hlevel (props, nearby-prop, named-prop)

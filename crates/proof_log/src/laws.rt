@@ -20,8 +20,10 @@ pub fn texts_are_unique()
 
 /// Lines are as short as their polynomials allow, each with its LF: so the length of a log can be told before it is written.
 pub fn texts_are_short()
-    ensures line { (names : List VarName) (l : LogLine) → IsTrue (are_variables names) → IsLine names l
+    ensures line { (names : List VarName) (l : LogLine) → IsTrue (are_variables names)
+        → IsLine names l
         → length (line_text names l) + 1 ≤ line_all l }
-    ensures lines { (names : List VarName) (ls : List LogLine) → IsTrue (are_variables names) → AreLines names ls
+    ensures lines { (names : List VarName) (ls : List LogLine) → IsTrue (are_variables names)
+        → AreLines names ls
         → length (text_of names ls) ≤ lines_all ls }
 {}

@@ -30,7 +30,8 @@ pub enum Rest<'a> {
 }
 
 pub fn write_number<S: Sink>(n: u128, pen: &mut Pen, sink: &mut S) -> Result<(), Failed>
-    ensures bytes { Writes (S.written sink.old) (S.written sink.new) pen.old pen.new result (decimal n) }
+    ensures bytes { Writes (S.written sink.old) (S.written sink.new) pen.old pen.new result
+        (decimal n) }
     ensures cause { HasCause (S.faults sink.old) (S.faults sink.new) result }
 {
     let mut buffer = Buffer::new();

@@ -24,9 +24,15 @@ impl Model for Path {
 
     ghost invariant = { λ path. Holds path.letters path.len };
 
-    ghost inverse = { λ word. record { letters = word ++ replicate (MOST_LETTERS - length word) false; len = length word } };
+    ghost inverse = { λ word. record {
+      letters = word ++ replicate (MOST_LETTERS - length word) false;
+      len = length word;
+    } };
 
-    ghost inverse_ok = { λ path h i. record { letters = filled_again path.letters path.len h i; len = front_length path.letters path.len h i } };
+    ghost inverse_ok = { λ path h i. record {
+      letters = filled_again path.letters path.len h i;
+      len = front_length path.letters path.len h i;
+    } };
 }
 
 impl Path {

@@ -55,7 +55,8 @@ pub fn step_on<S: TermStore>(
         (polynomial_at (S.state s.old) f)) }
     requires room { STEP_UNITS ≤ (S.state s.old).spare }
     ensures ok { IfOk result (λ a. Advances (S.state s.old) (S.state s.new) rest fuel
-        (bounded_reduction (polynomial_at (S.state s.old) rest) (polynomial_at (S.state s.old) f)) a) }
+        (bounded_reduction (polynomial_at (S.state s.old) rest)
+        (polynomial_at (S.state s.old) f)) a) }
     ensures refused { OnErr result (Keeps (S.state s.old) (S.state s.new)) }
 {
     match red_step(s, rest, f, var) {
@@ -104,10 +105,12 @@ pub fn prem<S: TermStore>(
         (rest_after (polynomial_at (S.state s.old) g) (polynomial_at (S.state s.old) f) d.steps)) }
     ensures identity { IfOk result (λ d. IsDivision MOST_VARIABLES (polynomial_at (S.state s.old) g)
         (polynomial_at (S.state s.old) f)
-        (division_of (polynomial_at (S.state s.old) g) (polynomial_at (S.state s.old) f) (length d.steps))) }
+        (division_of (polynomial_at (S.state s.old) g) (polynomial_at (S.state s.old) f)
+        (length d.steps))) }
     ensures steps { IfOk result (λ d. AreSteps (polynomial_at (S.state s.old) f) d.steps
         (polynomial_at (S.state s.old) g) fuel
-        (rest_after (polynomial_at (S.state s.old) g) (polynomial_at (S.state s.old) f) d.steps) d.fuel) }
+        (rest_after (polynomial_at (S.state s.old) g)
+        (polynomial_at (S.state s.old) f) d.steps) d.fuel) }
     ensures stop { IfOk result (λ d. Stops
         (rest_after (polynomial_at (S.state s.old) g) (polynomial_at (S.state s.old) f) d.steps)
         (polynomial_at (S.state s.old) f) d.fuel d.stop) }

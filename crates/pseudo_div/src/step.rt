@@ -40,7 +40,8 @@ fn less_product<S: TermStore>(s: &mut S, first: Poly, a: Poly, b: Poly) -> Resul
     requires b { IsPoly (S.state s.old) b }
     requires room { ARITH_UNITS + POLY_UNITS ≤ (S.state s.old).spare }
     ensures { Answers (S.state s.old) (S.state s.new) result
-        (and_then (bounded_product (polynomial_at (S.state s.old) a) (polynomial_at (S.state s.old) b))
+        (and_then (bounded_product (polynomial_at (S.state s.old) a)
+        (polynomial_at (S.state s.old) b))
         (λ second. bounded_difference (polynomial_at (S.state s.old) first) second)) }
 {
     match mul(s, a, b) {
@@ -92,8 +93,10 @@ fn reduce<S: TermStore>(
     requires room { ARITH_UNITS + POLY_UNITS + POLY_UNITS ≤ (S.state s.old).spare }
     ensures size { IfOk result (λ r. unsigned_abs r.0 ≤ MOST_SIZE) }
     ensures answer { Reduces (S.state s.old) (S.state s.new) result
-        (and_then (bounded_cross (polynomial_at (S.state s.old) lead) (polynomial_at (S.state s.old) g)
-        (polynomial_at (S.state s.old) beside) (polynomial_at (S.state s.old) f)) (λ t. Ok (parts_of t))) }
+        (and_then (bounded_cross (polynomial_at (S.state s.old) lead)
+        (polynomial_at (S.state s.old) g)
+        (polynomial_at (S.state s.old) beside) (polynomial_at (S.state s.old) f))
+        (λ t. Ok (parts_of t))) }
 {
     match cross(s, g, f, lead, beside) {
         Ok(difference) => {

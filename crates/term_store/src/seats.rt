@@ -118,7 +118,8 @@ pub fn make_room(
     ensures units { units places.new.items ≡ units places.old.items }
     ensures places { length places.new.items ≡ length places.old.items }
     ensures inside { IsTrue (are_inside (length terms.new.items) places.new.items) }
-    ensures last { IsTrue (is_last (length terms.new.items) (get_or places.new.items last nowhere)) }
+    ensures last { IsTrue
+        (is_last (length terms.new.items) (get_or places.new.items last nowhere)) }
     ensures free { length terms.new.items < vec_capacity terms.new }
     ensures room { min (vec_capacity terms.old) (vec_capacity next_terms.old) ≤ vec_capacity
         terms.new }
@@ -149,7 +150,8 @@ pub fn append(terms: &mut Vec<Term>, places: &mut Vec<Place>, slot: usize, term:
         ≡ run_of terms.old.items (get_or places.old.items slot nowhere) ++ term ∷ [] }
     ensures units { units places.new.items ≡ units places.old.items + 1 }
     ensures inside { IsTrue (are_inside (length terms.new.items) places.new.items) }
-    ensures last { IsTrue (is_last (length terms.new.items) (get_or places.new.items slot nowhere)) }
+    ensures last { IsTrue
+        (is_last (length terms.new.items) (get_or places.new.items slot nowhere)) }
     ensures room { vec_capacity terms.old ≤ vec_capacity terms.new }
     ensures seats { vec_capacity places.new ≡ vec_capacity places.old }
 {
