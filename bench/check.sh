@@ -28,7 +28,7 @@ count() {
     checked=$(instructions check "$work/log")
     grep -q '^assured$' "$work/said" || { echo "check.sh: the log of $1 is not assured" >&2; exit 1; }
     awk -v name="$1" -v bytes="$(wc -c <"$work/log")" -v proved="$proved" -v checked="$checked" 'BEGIN {
-        printf "| %s | %d | %d | %.0f | %.2f |\n", name, bytes, checked, checked / bytes, checked / proved
+        printf "| %s | %d | %d | %.0f | %.3f |\n", name, bytes, checked, checked / bytes, checked / proved
     }'
 }
 

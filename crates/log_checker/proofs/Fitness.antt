@@ -50,6 +50,25 @@ halted valid None why short tells m l = cc
 halted false (Some r) why short tells m l = refl
 halted true (Some r) why short tells m l = ap (λ b. where_fits (b && tells) m) (sym (limited r))
 
+-- a line and a rule, held against each other at once
+pub unfit : {A : Type 0} (valid : Bool) (limit : Option Reason) (short tells : Bool) (m : A) → (valid && (same_reason limit None && tells)) ≡ false → None ≡ where_fits (fitness valid limit short tells) m
+unfit false limit short tells m e = refl
+unfit true (Some why) short tells m e = ap (λ b. where_fits (b && tells) m) (sym (limited why))
+unfit true None true tells m e = refl
+unfit true None false false m e = refl
+unfit true None false true m e = cc
+
+pub record Fits (v : Bool) (l : Option Reason) (t : Bool) : Type 0 where
+  pub valid : v ≡ true
+  pub limit : l ≡ None
+  pub tells : t ≡ true
+
+pub all-fit : (valid : Bool) (limit : Option Reason) (tells : Bool) → (valid && (same_reason limit None && tells)) ≡ true → Fits valid limit tells
+all-fit false limit tells e = cc
+all-fit true (Some why) tells e = absurd (let h = sym (ap (λ b. b && tells) (limited why)) ∙ e in cc)
+all-fit true None false e = cc
+all-fit true None true e = record { valid = refl; limit = refl; tells = refl }
+
 -- a trial that gives no result
 pub refused : {A B : Type 0} (t : Trial B) (valid : Bool) (limit : Option Reason) (R : B → Type 0) (short tells : Bool) (m : A) → Tries valid limit R t
     → ((b : B) → t ≡ trial.Gives b → ⊥) → None ≡ where_fits (fitness valid limit short tells) m

@@ -1,5 +1,6 @@
 // Arithmetic on owned polynomials, by way of lists in a store that are given up again.
-ghost use Rattle.std.specs.Prelude.{◌≡◌, ◌≤◌, ◌+◌, IfOk, OnOk, IsTrue, suc, length, false};
+ghost use Rattle.std.specs.Prelude.{◌≡◌, ◌≤◌, ◌+◌, ◌&&◌, IfOk, OnOk, IsTrue, suc, length, false};
+ghost use Rattle.std.specs.Ordering.{int_eq};
 ghost use Rattle.std.specs.FinMap.{remove};
 ghost use Rattle.poly_model.specs.Content.{primitive_part};
 ghost use Rattle.poly_model.specs.Reduction.{same, is_constant, class_of, reaches, primitive_initial, primitive_tail};
@@ -9,7 +10,7 @@ ghost use Rattle.term_store.specs.States.{IsLive, list_at};
 ghost use Rattle.term_store.specs.Changes.{Keeps};
 ghost use Rattle.polynomials.specs.Held.{IsPoly, polynomial_at, slot_of};
 ghost use Rattle.log_checker.specs.Stores.{GivenUp};
-ghost use Rattle.log_checker.specs.Trials.{Reduced};
+ghost use Rattle.log_checker.specs.Trials.{Reduced, gives, reduces_to};
 ghost use Rattle.log_checker.specs.Fitting.{is_own_part};
 
 use poly_model::{Limit, OwnedPoly, ROW_UNITS};
@@ -64,29 +65,6 @@ fn is_held<S: TermStore>(s: &S, held: Poly, p: &OwnedPoly) -> bool
         }
     }
     true
-}
-
-/// A copy of the polynomial, whose list is given up: of the one that it is told to be, if it is that.
-fn told_out<S: TermStore>(
-    alloc: Global,
-    s: &mut S,
-    p: Poly,
-    told: Option<&OwnedPoly>,
-) -> Result<OwnedPoly, AllocError>
-    requires { IsPoly (S.state s.old) p }
-    ensures copy { IfOk result (λ q. q ≡ polynomial_at (S.state s.old) p) }
-    ensures given_up { GivenUp (S.state s.old) (S.state s.new) p }
-{
-    match told {
-        None => taken_out(alloc, s, p),
-        Some(told) => {
-            if !is_held(s, p, told) {
-                return taken_out(alloc, s, p);
-            }
-            give_up(s, p);
-            told.copy(alloc)
-        }
-    }
 }
 
 /// The primitive part of the polynomial, whose list is given up.
@@ -160,7 +138,6 @@ fn reduced_out<S: TermStore>(
     g: Poly,
     f: Poly,
     var: u8,
-    told: Option<&OwnedPoly>,
 ) -> Result<Result<(i128, OwnedPoly), Limit>, AllocError>
     requires g { IsPoly (S.state s.old) g }
     requires f { IsPoly (S.state s.old) f }
@@ -175,21 +152,19 @@ fn reduced_out<S: TermStore>(
     match red_step(s, g, f, var) {
         Err(limit) => Ok(Err(limit)),
         Ok((multiplier, rest)) => {
-            let rest = told_out(alloc, s, rest, told)?;
+            let rest = taken_out(alloc, s, rest)?;
             Ok(Ok((multiplier, rest)))
         }
     }
 }
 
-/// The elementary reduction of g by f in the variable at a place, the greatest of f, or the limit that it meets. It is
-/// told what it may give, which spares work where that is so.
+/// The elementary reduction of g by f in the variable at a place, the greatest of f, or the limit that it meets.
 pub fn reduction<S: TermStore>(
     alloc: Global,
     s: &mut S,
     g: &OwnedPoly,
     f: &OwnedPoly,
     var: u8,
-    told: Option<&OwnedPoly>,
 ) -> Result<Result<(i128, OwnedPoly), Limit>, AllocError>
     requires class { class_of f.now ≡ suc var }
     requires reaches { IsTrue (reaches g.now f.now) }
@@ -199,8 +174,63 @@ pub fn reduction<S: TermStore>(
     make_room(s)?;
     let held = copy_in(s, g);
     let divisor = copy_in(s, f);
-    let out = reduced_out(alloc, s, held, divisor, var, told);
+    let out = reduced_out(alloc, s, held, divisor, var);
     give_up(s, divisor);
     give_up(s, held);
     out
+}
+
+/// The multiplier and the polynomial of the store that were found are these.
+fn is_told<S: TermStore>(s: &S, found: &(i128, Poly), m: i128, r: &OwnedPoly) -> bool
+    requires { IsPoly (S.state s.now) found.now.1 }
+    ensures { result ≡ (int_eq m found.now.0
+        && same (polynomial_at (S.state s.now) found.now.1) r.now) }
+{
+    m == found.0 && is_held(s, found.1, r)
+}
+
+/// The elementary reduction of g by f in the variable at a place, the greatest of f, has this multiplier and this result.
+fn comes_to<S: TermStore>(s: &mut S, g: Poly, f: Poly, var: u8, m: i128, r: &OwnedPoly) -> bool
+    requires g { IsPoly (S.state s.old) g }
+    requires f { IsPoly (S.state s.old) f }
+    requires class { class_of (polynomial_at (S.state s.old) f) ≡ suc var }
+    requires reaches { IsTrue (reaches (polynomial_at (S.state s.old) g)
+        (polynomial_at (S.state s.old) f)) }
+    requires room { STEP_UNITS ≤ (S.state s.old).spare }
+    ensures kept { Keeps (S.state s.old) (S.state s.new) }
+    ensures told { result ≡ gives (bounded_reduction (polynomial_at (S.state s.old) g)
+        (polynomial_at (S.state s.old) f)) m r.now }
+{
+    match red_step(s, g, f, var) {
+        Err(_) => false,
+        Ok(found) => {
+            let told = is_told(s, &found, m, r);
+            give_up(s, found.1);
+            told
+        }
+    }
+}
+
+/// The elementary reduction of g by f in the variable at a place, the greatest of f, meets no limit and has this
+/// multiplier and this result.
+pub fn reduces_to<S: TermStore>(
+    s: &mut S,
+    g: &OwnedPoly,
+    f: &OwnedPoly,
+    var: u8,
+    m: i128,
+    r: &OwnedPoly,
+) -> Result<bool, AllocError>
+    requires class { class_of f.now ≡ suc var }
+    requires reaches { IsTrue (reaches g.now f.now) }
+    ensures lists { (S.state s.new).lists ≡ (S.state s.old).lists }
+    ensures ok { IfOk result (λ told. told ≡ reduces_to g.now f.now m r.now) }
+{
+    make_room(s)?;
+    let held = copy_in(s, g);
+    let divisor = copy_in(s, f);
+    let told = comes_to(s, held, divisor, var, m, r);
+    give_up(s, divisor);
+    give_up(s, held);
+    Ok(told)
 }

@@ -1,20 +1,19 @@
 // The lines of the chain of a system.
-ghost use Rattle.std.specs.Prelude.{◌≡◌, ◌<◌, ◌+◌, ◌-◌, ◌∷◌, [], ◌==◌, ◌&&◌, suc, drop, length, nat_lt, if◌then◌else◌, IfOk, Ok, Err, Some};
-ghost use Rattle.std.specs.Ordering.{int_eq};
-ghost use Rattle.poly_model.specs.Reduction.{same};
+ghost use Rattle.std.specs.Prelude.{◌≡◌, ◌<◌, ◌+◌, ◌-◌, ◌∷◌, [], ◌==◌, ◌&&◌, suc, drop, length, nat_lt, if◌then◌else◌, IfOk, Ok, Err, Some, None};
 ghost use Rattle.poly_model.specs.declared.limits.Reason.TheVariants as reason;
+ghost use Rattle.proof_steps.specs.Chain.{chain_reason, is_step};
+ghost use Rattle.proof_steps.specs.Numbers.{item};
 ghost use Rattle.proof_steps.specs.Reasons.{same_reason};
 ghost use Rattle.log_checker.specs.Fitting.{by_chain, chain_row, proved_row, remainder_row, unreduced_row, Chaining};
-ghost use Rattle.log_checker.specs.Turns.{IsDue, IsTurn, stop_in};
+ghost use Rattle.log_checker.specs.Turns.{IsDue, IsTurn, Reduces, conclusion, stop_in};
 ghost use Rattle.log_checker.specs.Views.{eqs_due, nes_due, chain_work, inside_views};
 
-use crate::arith::reduction;
+use crate::arith::{reduces_to, reduction};
 use crate::due::{Due, next_due};
 use crate::ending::Ending;
 use crate::open::is_met;
 use crate::piece::{Inside, System};
 use crate::reads::term_count;
-use crate::rows::tells;
 use poly_model::{OwnedPoly, Reason, Row};
 use proof_steps::ChainStep;
 use std::alloc::{AllocError, Global};
@@ -28,11 +27,18 @@ pub struct Turn {
     pub result: Result<(i128, OwnedPoly), Reason>,
 }
 
+/// The fuel is less than a reduction costs that gives the polynomial.
+fn is_short(fuel: u32, r: &OwnedPoly) -> bool
+    ensures { result ≡ nat_lt fuel (1 + length r.now) }
+{
+    (fuel as usize) < 1 + term_count(r)
+}
+
 /// The result, or want of fuel for it.
 fn with_fuel(found: (i128, OwnedPoly), fuel: u32) -> Result<(i128, OwnedPoly), Reason>
     ensures { result ≡ (if nat_lt fuel (1 + length found.1) then Err reason.Fuel else Ok found) }
 {
-    if (fuel as usize) < 1 + term_count(&found.1) {
+    if is_short(fuel, &found.1) {
         Err(Reason::Fuel)
     } else {
         Ok(found)
@@ -47,12 +53,11 @@ fn system_due(system: &System) -> Due
     next_due(eqs, &system.classes, system.cons.as_slice(), system.done)
 }
 
-/// The reduction that is due, if one is. It is told what it may give.
+/// The reduction that is due, if one is.
 fn next_turn<S: TermStore>(
     alloc: Global,
     s: &mut S,
     system: &System,
-    told: Option<&OwnedPoly>,
 ) -> Result<Option<Turn>, AllocError>
     ensures { IfOk result (λ t. IsTurn system.now.lists.eqs system.now.cons system.now.done
         system.now.fuel t) }
@@ -63,7 +68,7 @@ fn next_turn<S: TermStore>(
         Due::Reduce { at, f, var } => {
             let p = &system.cons.as_slice()[at];
             let q = &system.lists.eqs.as_slice()[f - 1];
-            match reduction(alloc, s, p, q, var, told)? {
+            match reduction(alloc, s, p, q, var)? {
                 Err(limit) => Ok(Some(Turn {
                     at,
                     f,
@@ -113,38 +118,42 @@ fn is_number(k: u8, at: usize) -> bool
     k > 0 && k as usize - 1 == at
 }
 
-/// The step tells the reduction.
-fn is_told(told: &ChainStep, at: usize, f: usize, found: &(i128, OwnedPoly)) -> bool
-    ensures { result ≡ ((told.now.k == suc at && told.now.f == f)
-        && (int_eq told.now.m found.now.0 && same told.now.r found.now.1)) }
+/// The step is of the conclusion at a place, and of the equation of a number.
+fn has_numbers(told: &ChainStep, at: usize, f: usize) -> bool
+    ensures { result ≡ (told.now.k == suc at && told.now.f == f) }
 {
-    is_number(told.k, at) && told.f as usize == f && tells(told.m, &told.r, found)
+    is_number(told.k, at) && told.f as usize == f
 }
 
-/// The system behind a step that is told of a reduction, if it fits.
-fn stepped(system: System, told: ChainStep, turn: Turn) -> Option<Inside>
-    requires turn { IsTurn system.lists.eqs system.cons system.done system.fuel (Some turn) }
-    requires eqs { eqs_due system.lists ≡ [] }
-    requires nes { nes_due system.lists ≡ [] }
-    ensures { inside_views result
-        ≡ by_chain (chain_work system) (λ E fuel due. chain_row E fuel told due) }
+/// The step tells the reduction of the conclusion at a place by the equation of a number, and there is fuel for it.
+fn step_fits<S: TermStore>(
+    s: &mut S,
+    system: &System,
+    at: usize,
+    f: usize,
+    var: u8,
+    told: &ChainStep,
+) -> Result<bool, AllocError>
+    requires at { at < length system.now.cons }
+    requires reduces { Reduces system.now.lists.eqs (conclusion system.now.cons at) f var }
+    ensures { IfOk result (λ fits. fits
+        ≡ (is_step system.now.lists.eqs (suc at) f (conclusion system.now.cons at) told.now
+        && same_reason (chain_reason (conclusion system.now.cons at)
+        (item system.now.lists.eqs f) system.now.fuel) None)) }
 {
-    let Turn { at, f, result } = turn;
-    match result {
-        Err(_) => None,
-        Ok(found) => {
-            if !is_told(&told, at, f, &found) {
-                return None;
-            }
-            let ChainStep { r, .. } = told;
-            Some(Inside::Solving(advanced(system, at, r)))
-        }
+    if !has_numbers(told, at, f) {
+        return Ok(false);
     }
+    if is_short(system.fuel, &told.r) {
+        return Ok(false);
+    }
+    let p = &system.cons.as_slice()[at];
+    let q = &system.lists.eqs.as_slice()[f - 1];
+    reduces_to(s, p, q, var, told.m, &told.r)
 }
 
 /// Where the piece stands behind a line `step`, if it fits.
 pub fn step_row<S: TermStore>(
-    alloc: Global,
     s: &mut S,
     system: System,
     told: ChainStep,
@@ -154,10 +163,14 @@ pub fn step_row<S: TermStore>(
     ensures { IfOk result (λ o. inside_views o
         ≡ by_chain (chain_work system) (λ E fuel due. chain_row E fuel told due)) }
 {
-    match next_turn(alloc, s, &system, Some(&told.r))? {
-        None => Ok(None),
-        Some(turn) => Ok(stepped(system, told, turn)),
+    let Due::Reduce { at, f, var } = system_due(&system) else {
+        return Ok(None);
+    };
+    if !step_fits(s, &system, at, f, var, &told)? {
+        return Ok(None);
     }
+    let ChainStep { r, .. } = told;
+    Ok(Some(Inside::Solving(advanced(system, at, r))))
 }
 
 /// Where the piece stands behind a line `proved`, if it fits.
@@ -214,7 +227,7 @@ pub fn unreduced_row<S: TermStore>(
     ensures { IfOk result (λ o. inside_views o
         ≡ by_chain (chain_work system.now) (λ E fuel due. unreduced_row E fuel k reason f due)) }
 {
-    match next_turn(alloc, s, system, None)? {
+    match next_turn(alloc, s, system)? {
         None => Ok(None),
         Some(turn) => {
             if is_stop(k, f, reason, &turn) {

@@ -27,7 +27,7 @@ fn chain_line<S: TermStore>(
         ≡ in_piece version cons (listed (chain_work system)) line) }
 {
     match line {
-        LogLine::Chain(told) => step_row(alloc, s, system, told),
+        LogLine::Chain(told) => step_row(s, system, told),
         LogLine::Proved => Ok(proved_row(&system)),
         LogLine::Remainder(k) => remainder_row(alloc, &system, k),
         LogLine::Unreduced { k, reason, f } => unreduced_row(alloc, s, &system, k, reason, f),

@@ -8,7 +8,7 @@ ghost use Rattle.log_checker.specs.Amounts.{spent};
 
 use crate::arith::initial_part;
 use crate::reads::{
-    class_number, degree, is_member, is_number, is_zero, left_beside, numbered, term_count,
+    class_number, has_degree, is_member, is_number, is_zero, left_beside, numbered, term_count,
 };
 use poly_model::{OwnedPoly, Row};
 use proof_steps::{Node, Path};
@@ -52,7 +52,7 @@ pub fn reaches(g: &OwnedPoly, f: &OwnedPoly, var: u8) -> bool
     ensures { result ≡ reaches g.now f.now }
 {
     let terms = f.terms();
-    terms[0].exps[var as usize] <= degree(g, var)
+    has_degree(g, var, terms[0].exps[var as usize])
 }
 
 /// The node without its i-th equation.

@@ -61,7 +61,7 @@ fn red_reason<S: TermStore>(
     ensures { IfOk result (λ o. (version : ℕ) → Stops (is_valid version node.now (attempt.Red g f))
         (reason_of version node.now (attempt.Red g f)) o) }
 {
-    match try_red(alloc, s, node, g, f, None)? {
+    match try_red(alloc, s, node, g, f)? {
         Trial::Invalid => Ok(None),
         Trial::Stopped(reason) => Ok(Some(Some(reason))),
         Trial::Gives((_, rest)) => {

@@ -1,5 +1,5 @@
 // What is read off owned polynomials and lists of them.
-ghost use Rattle.std.specs.Prelude.{◌≡◌, ◌<◌, ◌≤◌, max, length, map, IfOk, Option, Some, None, MatchOption, IsTrue, true, false};
+ghost use Rattle.std.specs.Prelude.{◌≡◌, ◌<◌, ◌≤◌, nat_le, length, map, IfOk, Option, Some, None, MatchOption, IsTrue, true, false};
 ghost use Rattle.poly_model.specs.Reduction.{class_of, main_place, main_degree, degree_at, reaches, is_constant, is_zero, is_nonzero_constant, has_polynomial};
 ghost use Rattle.poly_model.specs.declared.limits.TheConstants.{MOST_VARIABLES, MOST_TERMS};
 ghost use Rattle.proof_steps.specs.Numbers.{item, has};
@@ -36,18 +36,19 @@ pub fn classes_of(alloc: Global, ps: &[OwnedPoly]) -> Result<Vec<u8>, AllocError
     Ok(classes)
 }
 
-/// The degree in the variable at a place.
-pub fn degree(p: &OwnedPoly, var: u8) -> u8
+/// The degree in the variable at a place is so much or more.
+pub fn has_degree(p: &OwnedPoly, var: u8, least: u8) -> bool
     requires { var < MOST_VARIABLES }
-    ensures { result ≡ degree_at var p.now }
+    ensures { result ≡ nat_le least (degree_at var p.now) }
 {
-    let mut highest = 0;
     let mut rest = p.terms();
     while let Some((first, after)) = rest.split_first() {
-        highest = first.exps[var as usize].max(highest);
+        if least <= first.exps[var as usize] {
+            return true;
+        }
         rest = after;
     }
-    highest
+    least == 0
 }
 
 /// The number of terms.

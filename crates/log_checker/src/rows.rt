@@ -1,8 +1,6 @@
 // The lines at a node: whether they fit, and what stands behind them.
-ghost use Rattle.std.specs.Prelude.{◌≡◌, ◌&&◌, ℕ, ℤ, List, IfOk, Option};
+ghost use Rattle.std.specs.Prelude.{◌≡◌, ℕ, List, IfOk, Option};
 ghost use Rattle.poly_model.specs.Polynomial.{Polynomial};
-ghost use Rattle.std.specs.Ordering.{int_eq};
-ghost use Rattle.poly_model.specs.Reduction.{same};
 ghost use Rattle.proof_steps.specs.Rules.{stepped};
 ghost use Rattle.proof_steps.specs.Trees.{step_fits};
 ghost use Rattle.proof_steps.specs.declared.step.Step.TheVariants as step;
@@ -14,7 +12,7 @@ use crate::ending::Ending;
 use crate::node::{fuel_beside, with_equation, with_fuel, without};
 use crate::piece::{Inside, Lists, System};
 use crate::reads::{classes_of, is_number, numbered};
-use crate::rules::{Trial, may_drop, try_red, try_split, try_tail};
+use crate::rules::{Trial, is_red, may_drop, try_split, try_tail};
 use crate::triangular::is_triangular;
 use poly_model::{OwnedPoly, Row};
 use proof_steps::Node;
@@ -33,13 +31,6 @@ pub fn drop_row(node: Node, i: u16) -> Option<Node>
     }
 }
 
-/// The multiplier and the polynomial of a line are those that were found.
-pub fn tells(m: i128, r: &OwnedPoly, found: &(i128, OwnedPoly)) -> bool
-    ensures { result ≡ (int_eq m found.now.0 && same r.now found.now.1) }
-{
-    m == found.0 && *r == found.1
-}
-
 /// The node behind a line `red`, if it fits.
 pub fn red_row<S: TermStore>(
     alloc: Global,
@@ -54,14 +45,10 @@ pub fn red_row<S: TermStore>(
         ≡ where_fits (step_fits version node (step.Red g f m r))
         (stepped node (step.Red g f m r))) }
 {
-    let Trial::Gives(found) = try_red(alloc, s, &node, g, f, Some(&r))? else {
-        return Ok(None);
-    };
-    if !tells(m, &r, &found) {
+    if !is_red(alloc, s, &node, g, f, m, &r)? {
         return Ok(None);
     }
-    let (_, rest) = found;
-    Ok(with_fuel(with_equation(node, g, rest)))
+    Ok(with_fuel(with_equation(node, g, r)))
 }
 
 /// The node behind a line `tail`, if it fits.

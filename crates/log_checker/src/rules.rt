@@ -5,9 +5,9 @@ ghost use Rattle.poly_model.specs.declared.limits.TheConstants.{MOST_LETTERS};
 ghost use Rattle.proof_steps.specs.Numbers.{item, has};
 ghost use Rattle.proof_steps.specs.Rules.{has_known_initial, is_valid, limit_of};
 ghost use Rattle.proof_steps.specs.declared.step.Attempt.TheVariants.{Drop, Red, Tail, Split};
-ghost use Rattle.log_checker.specs.Trials.{Tries, Divides};
+ghost use Rattle.log_checker.specs.Trials.{Tries, Divides, IsRedPair, reduces_to};
 
-use crate::arith::{initial_part, reduction, tail_part};
+use crate::arith::{initial_part, reduces_to, reduction, tail_part};
 use crate::node::{is_known, reaches};
 use crate::reads::{class_number, is_member, is_zero, numbered};
 use poly_model::{MOST_LETTERS, OwnedPoly, Reason};
@@ -59,35 +59,71 @@ fn divisor<S: TermStore>(
     }
 }
 
-/// The reduction of the g-th equation by the f-th, which is told what it may give.
+/// The g-th equation, the f-th, and the place of its greatest variable, where it may reduce the g-th.
+fn red_pair<'a, S: TermStore>(
+    alloc: Global,
+    s: &mut S,
+    node: &'a Node,
+    g: u16,
+    f: u16,
+) -> Result<Option<(&'a OwnedPoly, &'a OwnedPoly, u8)>, AllocError>
+    ensures { IfOk result
+        (λ o. (version : ℕ) → MatchOption o (is_valid version node.now (Red g f) ≡ false)
+        (λ pair. IsRedPair version node.now g f pair.0.now pair.1.now pair.2)) }
+{
+    let eqs = node.eqs.as_slice();
+    let Some(p) = numbered(eqs, g) else {
+        return Ok(None);
+    };
+    let Some(q) = numbered(eqs, f) else {
+        return Ok(None);
+    };
+    if g == f {
+        return Ok(None);
+    }
+    match divisor(alloc, s, node.nes.as_slice(), p, q)? {
+        None => Ok(None),
+        Some(var) => Ok(Some((p, q, var))),
+    }
+}
+
+/// The reduction of the g-th equation by the f-th.
 pub fn try_red<S: TermStore>(
     alloc: Global,
     s: &mut S,
     node: &Node,
     g: u16,
     f: u16,
-    told: Option<&OwnedPoly>,
 ) -> Result<Trial<(i128, OwnedPoly)>, AllocError>
     ensures { IfOk result (λ t. (version : ℕ) → Tries (is_valid version node.now (Red g f))
         (limit_of version node.now (Red g f))
         (λ r. r ≡ reduction_of (item node.now.eqs g) (item node.now.eqs f)) t) }
 {
-    let eqs = node.eqs.as_slice();
-    let Some(p) = numbered(eqs, g) else {
+    let Some((p, q, var)) = red_pair(alloc, s, node, g, f)? else {
         return Ok(Trial::Invalid);
     };
-    let Some(q) = numbered(eqs, f) else {
-        return Ok(Trial::Invalid);
-    };
-    if g == f {
-        return Ok(Trial::Invalid);
-    }
-    let Some(var) = divisor(alloc, s, node.nes.as_slice(), p, q)? else {
-        return Ok(Trial::Invalid);
-    };
-    match reduction(alloc, s, p, q, var, told)? {
+    match reduction(alloc, s, p, q, var)? {
         Ok(result) => Ok(Trial::Gives(result)),
         Err(limit) => Ok(Trial::Stopped(limit.reason())),
+    }
+}
+
+/// The f-th equation may reduce the g-th, meets no limit, and gives this multiplier and this result.
+pub fn is_red<S: TermStore>(
+    alloc: Global,
+    s: &mut S,
+    node: &Node,
+    g: u16,
+    f: u16,
+    m: i128,
+    r: &OwnedPoly,
+) -> Result<bool, AllocError>
+    ensures { IfOk result (λ told. (version : ℕ) → told ≡ (is_valid version node.now (Red g f)
+        && reduces_to (item node.now.eqs g) (item node.now.eqs f) m r.now)) }
+{
+    match red_pair(alloc, s, node, g, f)? {
+        None => Ok(false),
+        Some((p, q, var)) => reduces_to(s, p, q, var, m, r),
     }
 }
 

@@ -14,12 +14,11 @@ bounds-terms-0 c = reads.some-term c.terms-terms.result.now c.args.var (class c)
 pub bounds-terms-var : goal.bounds-terms-var
 bounds-terms-var c = let few = reads.few-classes c.args.f.now c.terms-terms.ensures.standard in omega (arith, few, c.requires)
 
-pub degree-requires : goal.degree-requires
-degree-requires c = let few = reads.few-classes c.args.f.now c.terms-terms.ensures.standard in omega (arith, few, c.requires)
+pub has_degree-requires : goal.has_degree-requires
+has_degree-requires c = let few = reads.few-classes c.args.f.now c.terms-terms.ensures.standard in omega (arith, few, c.requires)
 
 pub returns : goal.returns
 returns c =
     let first = reads.first-degree c.terms-terms.result.now _ c.args.var (ap is_standard c.terms-terms.ensures.terms ∙ c.terms-terms.ensures.standard) (ap class_of c.terms-terms.ensures.terms ∙ c.requires) ∙ ap main_degree c.terms-terms.ensures.terms in
     let place : c.args.var ≡ class_of c.args.f.now - 1 = omega (arith, c.requires) in
-    let degree = c.degree.ensures ∙ ap (λ k. degree_at k c.args.g.now) place in
-    λ j. nat_le (first j) (degree j)
+    c.has_degree.ensures ∙ λ j. nat_le (first j) (degree_at (place j) c.args.g.now)
