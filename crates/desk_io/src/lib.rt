@@ -12,6 +12,3 @@ pub use memory::{MemDesk, MemSink};
 pub use pen::{PEN_ROOM, Pen};
 pub use real::{RealDesk, RealSink};
 pub use whole::{DeskFault, read_whole};
-
-#[cfg(test)]
-mod tests;

@@ -14,6 +14,3 @@ pub use limits::{MOST_DIVIDEND, MOST_DIVISOR, MOST_ROOT, MOST_SIZE, MOST_TERM};
 pub use quotient::{nearest_is_the_one, round_div};
 pub use root::{isqrt, root_is_the_one};
 pub use whole::{Whole, times};
-
-#[cfg(test)]
-mod tests;
