@@ -3,10 +3,11 @@ ghost use Rattle.std.specs.Prelude.{◌≡◌};
 
 use fixed_point::{Fix, Row};
 use gcl_reader::{Name, Side, Span, Statement};
+use std::alloc::AllocError;
 
 /// What a command does. Points, lines and circles each have numbers of their own, from 0 in order of definition; the
 /// payload has the command's arguments in their order.
-#[derive(Clone, Debug, PartialEq, Drop)]
+#[derive(Debug, PartialEq, Drop)]
 pub enum Deed {
     Dim(Fix, Fix),
     Color(u8, u8, u8),
@@ -47,6 +48,62 @@ pub enum Deed {
     CmarkAt(Side, u32),
     Mark(Side, u32),
     Prove(Statement, Row<u32>),
+}
+
+// Written out, since the derived one would ask each number for memory.
+impl Clone for Deed {
+    ghost use Rattle.std.specs.Prelude.{◌≡◌};
+
+    ghost is_clone = { λ x y. y ≡ x };
+
+    fn clone(&self) -> Result<Deed, AllocError> {
+        Ok(match self {
+            Deed::Dim(w, h) => Deed::Dim(*w, *h),
+            Deed::Color(r, g, b) => Deed::Color(*r, *g, *b),
+            Deed::Prooflevel(n) => Deed::Prooflevel(*n),
+            Deed::Prooflimit(n) => Deed::Prooflimit(*n),
+            Deed::ProverTimeout(n) => Deed::ProverTimeout(*n),
+            Deed::Point(p, x, y) => Deed::Point(*p, *x, *y),
+            Deed::Line(l, a, b) => Deed::Line(*l, *a, *b),
+            Deed::Circle(k, o, a) => Deed::Circle(*k, *o, *a),
+            Deed::Intersec(x, a, b) => Deed::Intersec(*x, *a, *b),
+            Deed::CutLine { x, y, circle, line } => Deed::CutLine {
+                x: *x,
+                y: *y,
+                circle: *circle,
+                line: *line,
+            },
+            Deed::CutCircle {
+                x,
+                y,
+                first,
+                second,
+            } => Deed::CutCircle {
+                x: *x,
+                y: *y,
+                first: *first,
+                second: *second,
+            },
+            Deed::Midpoint(m, a, b) => Deed::Midpoint(*m, *a, *b),
+            Deed::Med(l, a, b) => Deed::Med(*l, *a, *b),
+            Deed::Perp(p, a, l) => Deed::Perp(*p, *a, *l),
+            Deed::Parallel(p, a, l) => Deed::Parallel(*p, *a, *l),
+            Deed::Foot(f, a, l) => Deed::Foot(*f, *a, *l),
+            Deed::Online(x, a, b) => Deed::Online(*x, *a, *b),
+            Deed::Oncircle(x, o, a) => Deed::Oncircle(*x, *o, *a),
+            Deed::Translate(x, a, b, c) => Deed::Translate(*x, *a, *b, *c),
+            Deed::Towards(x, a, b, r) => Deed::Towards(*x, *a, *b, *r),
+            Deed::Drawpoint(a) => Deed::Drawpoint(*a),
+            Deed::Drawsegment(a, b) => Deed::Drawsegment(*a, *b),
+            Deed::Drawdashsegment(a, b) => Deed::Drawdashsegment(*a, *b),
+            Deed::Drawline(l) => Deed::Drawline(*l),
+            Deed::Drawcircle(k) => Deed::Drawcircle(*k),
+            Deed::Cmark(a) => Deed::Cmark(*a),
+            Deed::CmarkAt(side, a) => Deed::CmarkAt(*side, *a),
+            Deed::Mark(side, a) => Deed::Mark(*side, *a),
+            Deed::Prove(statement, points) => Deed::Prove(*statement, points.clone()?),
+        })
+    }
 }
 
 /// A command, and where its word stands.

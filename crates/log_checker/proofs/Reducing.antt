@@ -76,7 +76,3 @@ reducing-next (f ∷ E) p zero greatest h e = e
 reducing-next (f ∷ E) p (suc i) greatest h e =
     let next : suc i + 1 ≡ suc (i + 1) = omega arith in
     reducing-next E p i greatest (omega (arith, h)) (e ∙ ap (λ k. max (if reaches p (get_or E i []) then class_of (get_or E i []) else 0) (reducing_class (drop k (f ∷ E)) p)) next)
-
-pub reducing-end : (E : List Polynomial) (p : Polynomial) → reducing_class (drop (length E) E) p ≡ 0
-reducing-end [] p = refl
-reducing-end (f ∷ E) p = reducing-end E p
