@@ -1,6 +1,7 @@
 -- The pieces of the text of problems.
-use Rattle.std.proofs.Common.{◌≡◌, ◌≤◌, ◌<◌, ◌+◌, ℕ, zero, suc, List, [], ◌∷◌, ◌++◌, length, get_or, drop, map, refl, sym, ◌∙◌, ap, arith, append_assoc, codes, decimal, IsTrue, Bool, true, false, ◌&&◌, subst, add-one}
+use Rattle.std.proofs.Common.{◌≡◌, ◌≤◌, ◌<◌, ◌+◌, ℕ, zero, suc, List, [], ◌∷◌, ◌++◌, length, get_or, drop, map, refl, sym, ◌∙◌, ap, arith, append_assoc, codes, decimal, IsTrue, subst, add-one}
 use Rattle.std.specs.List.{list_all}
+use Rattle.std.proofs.lemmas.Bool.{and_parts}
 use Rattle.poly_model.specs.Polynomial.{Polynomial, is_over}
 use Rattle.poly_model.specs.declared.vars.VarName.{VarName}
 use Rattle.proof_steps.specs.declared.problem.Problem.{Problem}
@@ -43,20 +44,12 @@ problem_pieces k e =
 pub four_right : (a b c d : List ℕ) → a ++ b ++ c ++ d ≡ a ++ (b ++ (c ++ d))
 four_right a b c d = simp append_assoc
 
-pub first_holds : (a b : Bool) → IsTrue (a && b) → IsTrue a
-first_holds true b t = refl
-first_holds false b t = t
-
-pub second_holds : (a b : Bool) → IsTrue (a && b) → IsTrue b
-second_holds true b t = t
-second_holds false b t = absurd (let h : false ≡ true = t in cc)
-
 pub over_first : (n : ℕ) (rest tail : List Polynomial) (p : Polynomial) → rest ≡ p ∷ tail → IsTrue (list_all (is_over n) rest) → IsTrue (is_over n p) × IsTrue (list_all (is_over n) tail)
 over_first n rest tail p is t =
     let h = subst (λ l. IsTrue (list_all (is_over n) l)) is t in
-    (first_holds (is_over n p) (list_all (is_over n) tail) h, second_holds (is_over n p) (list_all (is_over n) tail) h)
+    and_parts (is_over n p) (list_all (is_over n) tail) h
 
 pub own_first : (rest tail : List Problem) (p : Problem) → rest ≡ p ∷ tail → IsTrue (list_all is_own rest) → IsTrue (is_own p) × IsTrue (list_all is_own tail)
 own_first rest tail p is t =
     let h = subst (λ l. IsTrue (list_all is_own l)) is t in
-    (first_holds (is_own p) (list_all is_own tail) h, second_holds (is_own p) (list_all is_own tail) h)
+    and_parts (is_own p) (list_all is_own tail) h

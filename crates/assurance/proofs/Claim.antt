@@ -1,7 +1,7 @@
 -- The leaves of a valid tree cover its root, and its verdict holds.
 use Rattle.std.proofs.Common.{◌≡◌, ◌≢◌, ℕ, List, [], ◌∷◌, map, refl, sym, ◌∙◌, ap, subst, arith, Bool, true, false, cond, ◌&&◌, not, inl, inr, ◌↔◌}
 use Rattle.std.specs.Prelude.{Some, None, filter, nat_le}
-use Rattle.std.proofs.lemmas.Bool.{and_parts, and_from, both_ways}
+use Rattle.std.proofs.lemmas.Bool.{and_parts, and_from, both_ways, not-false}
 use Rattle.std.proofs.lemmas.Option.{same_Some}
 use Rattle.poly_model.specs.Domain.{Operations, IsDomain, ZeroOrNot}
 use Rattle.poly_model.specs.Polynomial.{Polynomial, value_at}
@@ -25,7 +25,7 @@ use Rattle.assurance.proofs.Some.{some-map, witness, filtered-in, in-filtered}
 use Rattle.assurance.proofs.Cover as cover
 use Rattle.assurance.proofs.Cover.{IsListedZero}
 use Rattle.assurance.proofs.Generic as generic
-use Rattle.assurance.proofs.Generic.{Has, negated}
+use Rattle.assurance.proofs.Generic.{Has}
 
 -- a leaf that keeps some conclusion open, off the generic branch
 abbrev is_exception : Piece → Bool
@@ -61,7 +61,7 @@ module _ {M : Type 0} {o : Operations M} (L : IsDomain o) (zero_or_not : ZeroOrN
   none-repeats : (ps : List Polynomial) (point : List M) → NoneZero o (without_repeats ps) point → NoneZero o ps point
   none-repeats [] point z = tt
   none-repeats (p ∷ ps) point z =
-      let rest = none-filter (λ q. not (same q p)) (without_repeats ps) point p z.0 (λ q e. same-is q p (negated (same q p) e)) z.1 in
+      let rest = none-filter (λ q. not (same q p)) (without_repeats ps) point p z.0 (λ q e. same-is q p (not-false (same q p) e)) z.1 in
       (z.0, none-repeats ps point rest)
 
   none-mapped : (g : Piece → Polynomial) (ps : List Piece) (point : List M) (l : Piece) → NoneZero o (map g ps) point → Has ps l

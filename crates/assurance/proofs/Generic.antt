@@ -1,7 +1,7 @@
 -- The generic branch: a zero of a leaf with a `-` in its path is one at which the condition gained where the branch is left is zero.
 use Rattle.std.proofs.Common.{◌≡◌, ℕ, ◌-◌, ◌<◌, ◌≤◌, suc, List, [], ◌∷◌, ◌++◌, length, replicate, refl, sym, ◌∙◌, ap, subst, arith, Bool, true, false, cond, ◌&&◌, not, inl, inr, ◌⊎◌, append_assoc}
 use Rattle.std.specs.Prelude.{is_none, unwrap_or, Some, None, find}
-use Rattle.std.proofs.lemmas.Bool.{and_parts, and_from, not_from_false, both_ways}
+use Rattle.std.proofs.lemmas.Bool.{and_parts, and_from, not_from_false, both_ways, not-false}
 use Rattle.std.proofs.lemmas.List.{append-nil}
 use Rattle.poly_model.specs.Domain.{Operations, IsDomain, ZeroOrNot}
 use Rattle.poly_model.specs.Polynomial.{Polynomial, value_at}
@@ -32,10 +32,6 @@ use Rattle.assurance.proofs.Chains.{chain-sound}
 -- the piece is in the list
 abbrev pub Has : List Piece → Piece → Type 0
 Has ps l = SomeOf (λ p. p ≡ l) ps
-
-pub negated : (b : Bool) → not b ≡ false → b ≡ true
-negated true e = refl
-negated false e = cc
 
 -- the equations of the second child of a split
 abbrev minus_equations : Node → ℕ → List Polynomial
@@ -87,7 +83,7 @@ module _ {M : Type 0} {o : Operations M} (L : IsDomain o) (zero_or_not : ZeroOrN
       let a = and_parts (is_triangular m.eqs m.nes && chain_fits m.eqs 1 cons fuel c t) _ h in
       let b = and_parts (is_triangular m.eqs m.nes) _ a.0 in
       let zero = (cover.listed-zeros L zero_or_not version cons p m point a.1).0 z.1 in
-      chain-sound L m.eqs m.nes point b.0 zero 1 cons fuel c t b.1 (negated (is_proved t) u)
+      chain-sound L m.eqs m.nes point b.0 zero 1 cons fuel c t b.1 (not-false (is_proved t) u)
 
   pub proved-leaf : (ns : List Node) (ps : List Piece) → AreTrees version cons ns ps → (l : Piece) → Has ps l → Zero l → is_unproved l.outcome ≡ false
       → AllZero o cons point

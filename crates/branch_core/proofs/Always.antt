@@ -1,10 +1,11 @@
 -- What each possible event keeps holds after every run.
-use Rattle.std.proofs.Common.{◌≡◌, ℕ, ◌<◌, List, [], ◌∷◌, ◌++◌, Bool, true, false, length, get_or, refl, sym, ◌∙◌, subst, append_assoc, Option, Some, None, ◌&&◌}
+use Rattle.std.proofs.Common.{◌≡◌, ℕ, ◌<◌, List, [], ◌∷◌, ◌++◌, Bool, true, false, length, get_or, refl, sym, ◌∙◌, subst, append_assoc, Option, Some, None}
 use Rattle.std.specs.Prelude.{nat_lt, ◌==◌}
 use Rattle.std.specs.Option.{option_and_then}
 use Rattle.std.specs.List.{remove}
 use Rattle.std.proofs.lemmas.List.{append-nil}
 use Rattle.std.proofs.lemmas.List.Quantifiers.{position-Some}
+use Rattle.std.proofs.lemmas.Bool.{and_parts}
 use Rattle.poly_model.specs.declared.limits.TheConstants.{MOST_LETTERS}
 use Rattle.proof_steps.specs.Paths.{same_path}
 use Rattle.proof_steps.proofs.Paths.{same_is}
@@ -29,14 +30,10 @@ waits s path i e =
     let all = λ (d : List Bool). position-Some (same_path path) s.waiting i d e in
     record { within = (all []).0; is = λ d. sym (same_is path (get_or s.waiting i d) (all d).1) }
 
-first_of_both : (a b : Bool) → a && b ≡ true → a ≡ true
-first_of_both true b e = refl
-first_of_both false b e = e
-
 holds : {P : Type 0} (s : State P) (path : List Bool) (worker i : ℕ) → held_at s path worker ≡ Some i → Holds s path i
 holds s path worker i e =
     let all = λ (d : Hold). position-Some (is_hold path worker) s.held i d e in
-    record { within = (all (hold [] 0)).0; is = λ d. sym (same_is path (get_or s.held i d).path (first_of_both (same_path path (get_or s.held i d).path) (worker == (get_or s.held i d).worker) (all d).1)) }
+    record { within = (all (hold [] 0)).0; is = λ d. sym (same_is path (get_or s.held i d).path (and_parts (same_path path (get_or s.held i d).path) (worker == (get_or s.held i d).worker) (all d).1).0) }
 
 -- a fact about histories and the states that they lead to
 pub record Keeps {P : Type 0} (K : List (Event P) → State P → Type 0) : Type 0 where

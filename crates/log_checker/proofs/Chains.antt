@@ -3,6 +3,7 @@ use Rattle.std.proofs.Common.{◌≡◌, ℕ, ◌+◌, ◌-◌, ◌<◌, zero, s
 use Rattle.std.specs.Ordering.{int_eq}
 use Rattle.std.specs.Prelude.{◌==◌, if◌then◌else◌, nat_lt, Option, Some, None, Result, Ok, Err, IfOk}
 use Rattle.std.proofs.lemmas.Bool.{and_parts}
+use mathlib.Core.Bool.{and-true, and-false}
 use Rattle.poly_model.specs.Polynomial.{Polynomial}
 use Rattle.poly_model.specs.Equality.{same-is}
 use Rattle.poly_model.specs.Reduction.{same, reduction_of}
@@ -59,14 +60,6 @@ enough : (limit : Option Reason) (short : Bool) → short ≡ false → same_rea
 enough (Some why) short e = refl
 enough None true e = cc
 enough None false e = refl
-
-and-true : (b : Bool) → (b && true) ≡ b
-and-true true = refl
-and-true false = refl
-
-and-false : (b : Bool) → (b && false) ≡ false
-and-false true = refl
-and-false false = refl
 
 short-step : (limit : Option Reason) (n tells short : Bool) → (tells ≡ true → short ≡ true) → false ≡ ((n && tells) && same_reason (stopped_by limit short) None)
 short-step limit false tells short s = refl

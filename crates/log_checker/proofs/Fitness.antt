@@ -81,24 +81,12 @@ one-short true m = refl
 one-short false m = refl
 
 -- ---- the lines of steps
-pub not-then : (a b : Bool) → a ≡ not b → a ≡ true → b ≡ false
-not-then a true e t = absurd (let h : true ≡ false = sym t ∙ e in cc)
-not-then a false e t = refl
-
-pub not-else : (a b : Bool) → a ≡ not b → a ≡ false → b ≡ true
-not-else a true e t = refl
-not-else a false e t = absurd (let h : true ≡ false = sym e ∙ t in cc)
-
 -- a new node, where it has fuel
 pub settled : (x m : Node) → x ≡ m → (if is_short x then None else Some x) ≡ (if is_short m || false then None else Some m)
 settled x m e = ap (λ (y : Node). if is_short y then None else Some y) e ∙ one-short (is_short m) m
 
 pub valid-has : (version : ℕ) (n : Node) (g f : ℕ) → is_valid version n (attempt.Red g f) ≡ true → has n.eqs g ≡ true
 valid-has version n g f v = (and_parts (has n.eqs g) _ (and_parts (has n.eqs g && (has n.eqs f && not (g == f))) _ v).0).0
-
-pub not-true : (b : Bool) → not b ≡ true → b ≡ false
-not-true true e = cc
-not-true false e = refl
 
 -- ---- what stops a rule
 pub limit-stop : (limit : Option Reason) (short : Bool) (why : Reason) → limit ≡ Some why → stopped_by limit short ≡ Some why

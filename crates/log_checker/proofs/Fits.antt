@@ -4,6 +4,7 @@ use Rattle.std.specs.Prelude.{Option, Some, None, if◌then◌else◌, nat_le, �
 use Rattle.std.specs.List.{flat_map, list_all}
 use Rattle.std.proofs.lemmas.Bool.{and_parts, and_from, eqb-true, eq-eqb}
 use Rattle.std.proofs.lemmas.List.{append-nil}
+use mathlib.Core.Bool.{and_assoc}
 use Rattle.poly_model.specs.Polynomial.{Polynomial}
 use Rattle.poly_model.specs.declared.limits.TheConstants.{MOST_FUEL}
 use Rattle.proof_steps.specs.Rules.{size_of}
@@ -225,10 +226,6 @@ both_tests : (a b : Bool) (o : Option State) → if_fits a (if_fits b o) ≡ if_
 both_tests true b o = refl
 both_tests false b o = refl
 
-and-assoc : (a b c : Bool) → (a && (b && c)) ≡ ((a && b) && c)
-and-assoc true b c = refl
-and-assoc false b c = refl
-
 proof-fits : (s : State) (k : ℕ) (p : Proof) (rest : List LogLine) → PiecesWritten p.problem.cons p.tree.pieces
     → fitted s (proof_lines k p ++ rest) ≡ if_fits (proof_passes s.version s.fuel p) (fitted (proof_done s.version s.fuel p) rest)
 unfolding fitted after
@@ -253,7 +250,7 @@ proof-fits s k p rest w =
     opening version fuel hyps cons ps p.verdict rest
     ∙ ap (if_fits (root_fits version fuel hyps cons)) (pieces-fit version fuel hyps cons ps (root_node version fuel hyps cons ∷ []) no_tally p.verdict rest w)
     ∙ both_tests (root_fits version fuel hyps cons) (passes version fuel hyps cons (root_node version fuel hyps cons ∷ []) no_tally ps p.verdict) done
-    ∙ ap (λ b. if_fits b done) (and-assoc (root_fits version fuel hyps cons) (are_trees version cons (root_node version fuel hyps cons ∷ []) ps) (same_verdict p.verdict (verdict_told (tally_of no_tally ps)))))
+    ∙ ap (λ b. if_fits b done) (sym (and_assoc (root_fits version fuel hyps cons) (are_trees version cons (root_node version fuel hyps cons ∷ []) ps) (same_verdict p.verdict (verdict_told (tally_of no_tally ps))))))
     ∙ both_tests (list_all is_own_part cons) _ done)
     ∙ both_tests (list_all is_own_part hyps) _ done
 

@@ -5,15 +5,12 @@ use Rattle.std.specs.List.{list_all}
 use Rattle.std.proofs.lemmas.Bool.{eqb-true, eq-eqb}
 use Rattle.std.proofs.lemmas.List.Sums.{sum_by-cons}
 use Rattle.std.proofs.Math.ListN.{get_or-map}
+use mathlib.Core.Bool.{and-true}
 use Rattle.poly_model.specs.Polynomial.{Polynomial}
 use Rattle.poly_model.specs.Reduction.{class_of, is_constant, reaches}
 use Rattle.proof_steps.specs.Chain.{reducing_class}
 use Rattle.proof_steps.specs.Rules.{has_known_initial, is_settled}
 use Rattle.proof_steps.proofs.Reducing.{count-next, count-some}
-
-and-true : (a : Bool) → (a && true) ≡ a
-and-true true = refl
-and-true false = refl
 
 pub class-at : (E : List Polynomial) (classes : List ℕ) (i : ℕ) → classes ≡ map class_of E → get_or classes i 0 ≡ class_of (get_or E i [])
 class-at E classes i e = ap (λ xs. get_or xs i 0) e ∙ get_or-map class_of E i []

@@ -3,6 +3,7 @@ use Rattle.std.proofs.Common.{◌≡◌, ℕ, ◌-◌, ◌<◌, ◌≤◌, zero,
 use Rattle.std.specs.List.{list_any}
 use Rattle.std.specs.Prelude.{ℤ, pos, negsuc, unsigned_abs, decimal}
 use Rattle.std.proofs.lemmas.Bool.Decides.{nat_tests}
+use Rattle.std.proofs.lemmas.Bool.{and_parts}
 use Rattle.poly_model.specs.Polynomial.{Entry}
 use Rattle.poly_model.specs.Content.{is_negative, signed_by}
 use Rattle.poly_model.specs.declared.vars.VarName.{VarName}
@@ -11,7 +12,7 @@ use Rattle.poly_model.specs.declared.limits.TheConstants.{MOST_VARIABLES, MOST_S
 use Rattle.poly_text.specs.Text.{is_left_out, factors_text, term_text, sign_text, entry_text}
 use Rattle.poly_text.specs.Bytes.{is_digit}
 use Rattle.poly_text.specs.Reading.{number_from, number_at, Size, size_or_one, size_at, factors_at, is_spelled, entry_of_parts, term_at, sign_at, term_behind, entry_at}
-use Rattle.poly_text.proofs.Numbers.{begins_digit, number_at-complete, number_at-sound, given, and_parts, digits_written}
+use Rattle.poly_text.proofs.Numbers.{begins_digit, number_at-complete, number_at-sound, given, digits_written}
 use Rattle.poly_text.proofs.Factors.{ends, goes_on, Named, FitExponents, factors-follow, factors-complete, factors-sound}
 
 -- the spare exponents

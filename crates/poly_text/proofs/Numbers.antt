@@ -5,6 +5,7 @@ use Rattle.std.specs.Prelude.{decimal}
 use Rattle.std.proofs.lemmas.Fmt.{decimal_is_IsNumeral_wide, decimal_digit, decimal_step_wide, decimal_by_steps_wide}
 use Rattle.std.proofs.lemmas.Str.Parse.{IsNumeralModel, numerals_by_fold}
 use Rattle.std.proofs.lemmas.Bool.Decides.{nat_tests}
+use Rattle.std.proofs.lemmas.Bool.{and_parts, not-true}
 use Rattle.poly_text.specs.Bytes.{is_digit}
 use Rattle.poly_text.specs.Reading.{number_from, begins_number, number_at}
 
@@ -102,10 +103,6 @@ spelled n (b ∷ text) some small =
       | false ↦ λ d small. refl
     ] refl small
 
-pub and_parts : (a b : Bool) → (a && b) ≡ true → (a ≡ true) × (b ≡ true)
-and_parts true b h = (refl, h)
-and_parts false b h = cc
-
 pub given : {A : Type 0} (b : Bool) (x y : A) → ◌≡◌ {A = Option A} (cond b (Some x) None) (Some y) → (b ≡ true) × (x ≡ y)
 given true x y e = (refl, cc)
 given false x y e = cc
@@ -144,13 +141,9 @@ spelled_number (b ∷ []) begins small =
 spelled_number (b ∷ c ∷ text) begins small =
     let p = and_parts (is_digit b) (not (b == 48 && is_digit c)) begins in
     elim (b == 48) as (λ t. (b == 48) ≡ t → not (t && is_digit c) ≡ true → Spells (b ∷ c ∷ text) (number_from 0 (b ∷ c ∷ text))) [
-      | true ↦ λ e n. spelled_zero b (c ∷ text) (grind (arith, nat_tests)) (number_from-other 0 c text (refuted (is_digit c) n))
+      | true ↦ λ e n. spelled_zero b (c ∷ text) (grind (arith, nat_tests)) (number_from-other 0 c text (not-true (is_digit c) n))
       | false ↦ λ e n. spelled_first b (c ∷ text) p.0 (let r = digit-range b p.0 in let m : b ≢ 48 = grind (arith, nat_tests) in omega (arith, r.0, m)) small
     ] refl p.1
-  where
-    refuted : (t : Bool) → not t ≡ true → t ≡ false
-    refuted true n = cc
-    refuted false n = refl
 
 pub number_at-sound : (most : ℕ) (text : List ℕ) (n : ℕ) (rest : List ℕ) → most < 10 ^ 64 → number_at most text ≡ Some (n, rest) → (text ≡ decimal n ++ rest) × (n ≤ most)
 unfolding Spells

@@ -1,12 +1,11 @@
 -- The places of variables: the n-th of a kind has n - 1 of its kind before it.
 use Rattle.std.proofs.Common.{◌≡◌, ℕ, ◌+◌, ◌-◌, ◌<◌, ◌≤◌, zero, suc, List, [], ◌∷◌, length, get_or, max, true, nat_eq, nat_le, ap, arith}
-use Rattle.std.proofs.lemmas.Bool.{eqb-true}
+use Rattle.std.proofs.lemmas.Bool.{eqb-true, and_parts}
 use Rattle.poly_model.specs.declared.vars.VarName.{VarName}
 use Rattle.poly_model.specs.declared.vars.VarName.TheVariants.{U, X}
 use Rattle.poly_model.specs.declared.limits.TheConstants.{MOST_VARIABLES}
 use Rattle.poly_model.specs.Names.{number, is_parameter, is_dependent, numbers_of, count_from, are_numbered, are_variables}
 use Rattle.poly_text.specs.Reading.{Lacks}
-use Rattle.poly_text.proofs.Numbers.{and_parts}
 
 -- a number is at most its place, where those before the first place are at most c
 numbered_by : (c u x : ℕ) (names : List VarName) (i : ℕ) (d : VarName) → u ≤ c → x ≤ c → count_from u (numbers_of is_parameter names) ≡ true

@@ -4,6 +4,7 @@ use Rattle.std.specs.List.{list_all}
 use Rattle.std.specs.Prelude.{decimal, unsigned_abs}
 use Rattle.std.proofs.lemmas.Fmt.{decimal_is_IsNumeral_wide}
 use Rattle.std.proofs.lemmas.List.Folds.{list_all-append}
+use Rattle.std.proofs.lemmas.Bool.{and_parts}
 use Rattle.poly_model.specs.Content.{is_negative}
 use Rattle.poly_model.specs.Names.{number, are_variables}
 use Rattle.poly_model.specs.Polynomial.{Polynomial, is_over}
@@ -13,7 +14,7 @@ use Rattle.poly_model.specs.declared.vars.VarName.TheVariants.{U, X}
 use Rattle.poly_model.specs.declared.limits.TheConstants.{MOST_DEGREE, MOST_SIZE}
 use Rattle.poly_text.specs.Bytes.{is_digit, is_poly_byte}
 use Rattle.poly_text.specs.Text.{exponent_text, factor_text, joint_text, factors_text, is_left_out, term_text, sign_text, entry_text, terms_text, poly_text}
-use Rattle.poly_text.proofs.Numbers.{own, and_parts}
+use Rattle.poly_text.proofs.Numbers.{own}
 use Rattle.poly_text.proofs.Factors.{Named, FitExponents}
 use Rattle.poly_text.proofs.Entries.{spare}
 use Rattle.poly_text.proofs.Unique.{AllFit, all_fit, few, named}

@@ -2,7 +2,7 @@
 use Rattle.std.proofs.Common.{◌≡◌, ◌≢◌, ℕ, ◌+◌, ◌<◌, ◌≤◌, zero, suc, List, [], ◌∷◌, ◌++◌, length, drop, replicate, Bool, true, false, ◌&&◌, ◌==◌, nat_lt, nat_le, nat_eq, cond, refl, sym, ◌∙◌, ap, arith, Option, Some, None, length-append}
 use Rattle.std.specs.List.{list_all, list_any}
 use Rattle.std.specs.Prelude.{ℤ, unsigned_abs, codes, decimal}
-use Rattle.std.proofs.lemmas.Bool.{eqb-true}
+use Rattle.std.proofs.lemmas.Bool.{eqb-true, and_parts, and_from}
 use Rattle.std.proofs.lemmas.Bool.Decides.{nat_tests}
 use Rattle.poly_model.specs.Polynomial.{Entry, Polynomial, is_over}
 use Rattle.poly_model.specs.Content.{is_negative}
@@ -13,7 +13,7 @@ use Rattle.poly_model.specs.declared.vars.VarName.TheVariants.{U, X}
 use Rattle.poly_model.specs.declared.limits.TheConstants.{MOST_VARIABLES, MOST_DEGREE, MOST_TERMS, MOST_SIZE}
 use Rattle.poly_text.specs.Text.{factors_text, is_left_out, term_text, sign_text, terms_text, poly_text}
 use Rattle.poly_text.specs.Reading.{entry_at}
-use Rattle.poly_text.proofs.Numbers.{and_parts, digits_written}
+use Rattle.poly_text.proofs.Numbers.{digits_written}
 use Rattle.poly_text.proofs.Factors.{ends, Named, Misses, FitExponents}
 use Rattle.poly_text.proofs.Entries.{spare, Fits, entry-complete}
 
@@ -106,12 +106,9 @@ fit_descending names ((es, c) ∷ p) f d o =
 pub all_fit : (names : List VarName) (p : Polynomial) → length names ≤ MOST_VARIABLES → is_standard p ≡ true → is_over (length names) p ≡ true → AllFit names p
 all_fit names p f s o = fit_descending names p f (and_parts (nat_le (length p) MOST_TERMS) (are_descending p) s).1 o
 
-and_both : (a b : Bool) → a ≡ true → b ≡ true → (a && b) ≡ true
-and_both a b p q = ap (λ t. t && b) p ∙ q
-
 pub all_over : (names : List VarName) (p : Polynomial) → AllFit names p → is_over (length names) p ≡ true
 all_over names [] fit = refl
-all_over names (entry ∷ p) fit = and_both _ _ (over_exponents (spare names) names entry.0 fit.0.exponents) (all_over names p fit.1)
+all_over names (entry ∷ p) fit = and_from _ _ (over_exponents (spare names) names entry.0 fit.0.exponents) (all_over names p fit.1)
 
 -- ---- texts
 pub terms_end : (names : List VarName) (p : Polynomial) → ends (terms_text false names p) ≡ true

@@ -1,5 +1,5 @@
 -- The steps of a merge.
-use Rattle.std.proofs.Common.{◌≡◌, ◌≢◌, ℕ, ◌≤◌, zero, suc, refl, List, [], ◌∷◌, ◌++◌, length, sym, ◌∙◌, ap, subst, arith, Bool, true, false, ◌&&◌, IsTrue, nat_le}
+use Rattle.std.proofs.Common.{◌≡◌, ◌≢◌, ℕ, ◌≤◌, zero, suc, refl, List, [], ◌∷◌, ◌++◌, length, sym, ◌∙◌, ap, subst, arith, true, false, ◌&&◌, IsTrue, nat_le}
 use Rattle.std.specs.Prelude.{ℤ, pos, negsuc, ◌+ℤ◌, unsigned_abs}
 use Rattle.std.proofs.lemmas.Bool.Decides.{nat_tests}
 use Rattle.std.specs.declared.cmp.Ordering.TheVariants.{Less, Equal, Greater}
@@ -13,6 +13,7 @@ use Rattle.poly_model.specs.Standard.{are_bounded}
 use Rattle.polynomials.specs.Summed.{term_or_none, summed}
 use Rattle.std.proofs.lemmas.Bool.{and_parts}
 use Rattle.std.specs.Cmp.Derive.{both_true}
+use mathlib.Core.Bool.{and-false}
 use Rattle.poly_model.proofs.Merge.{add_greater, add_less, add_equal, add_none}
 use Rattle.polynomials.proofs.Steps.{map-append, bounded-append, moved, bounded-more, not_le}
 
@@ -100,11 +101,7 @@ passes out x y ra rb sum m g large =
     ∙ ap (λ l. are_bounded (polynomial_of out ++ l)) (with_some y.exps c rest some)
     ∙ bounded-append (polynomial_of out) ((y.exps, c) ∷ rest)
     ∙ ap (λ b. are_bounded (polynomial_of out) && (b && are_bounded rest)) (not_le (unsigned_abs c) MOST_SIZE large)
-    ∙ and_false (are_bounded (polynomial_of out))
-  where
-    and_false : (b : Bool) → (b && false) ≡ false
-    and_false true = refl
-    and_false false = refl
+    ∙ and-false (are_bounded (polynomial_of out))
 
 pub end_a : (out ra rb : List Term) (sum : Polynomial) → length rb ≡ 0 → Merging out ra rb sum → IsTrue (are_bounded (polynomial_of (out ++ ra))) × (polynomial_of (out ++ ra) ≡ sum)
 end_a out ra (y ∷ rb) sum e m = absurd (omega (arith, e))

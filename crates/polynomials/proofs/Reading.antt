@@ -175,7 +175,3 @@ multiplier-some (x ∷ xs) some = refl
 pub class-of_first : (n : ℕ) (xs : List Term) (t : Term) → (length xs ≡ 0 → ⊥) → t ≡ get_or xs 0 t → IsDescending n (polynomial_of xs) → monomial_class t.exps ≡ class_of (polynomial_of xs)
 class-of_first n [] t some at h = absurd (some refl)
 class-of_first n (x ∷ xs) t some at h = ap (λ (y : Term). monomial_class y.exps) at ∙ sym (class-first n x.exps x.coef (polynomial_of xs) h)
-
-pub not_false : (b : Bool) → not b ≡ false → b ≡ true
-not_false true e = refl
-not_false false e = absurd (let h : true ≡ false = e in cc)

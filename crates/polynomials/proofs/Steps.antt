@@ -15,6 +15,7 @@ use Rattle.term_store.proofs.Making as making
 use Rattle.poly_model.proofs.Within.{all_low}
 use Rattle.std.proofs.lemmas.Bool.{and_parts}
 use Rattle.std.specs.Cmp.Derive.{both_true}
+use mathlib.Core.Bool.{and-false}
 
 pub map-append : (xs ys : List Term) → polynomial_of (xs ++ ys) ≡ polynomial_of xs ++ polynomial_of ys
 map-append [] ys = refl
@@ -63,10 +64,6 @@ row-end out qs es c n all le e = sym (none (polynomial_of out)) ∙ ap (λ l. po
     none [] = refl
     none (x ∷ p) = ap (λ l. x ∷ l) (none p)
 
-false_right : (b : Bool) → (b && false) ≡ false
-false_right true = refl
-false_right false = refl
-
 pub not_le : (a b : ℕ) → (a ≤ b → ⊥) → nat_le a b ≡ false
 not_le a b n = grind (arith, nat_tests)
 
@@ -77,7 +74,7 @@ row-passes out qs es c i t all below at passes e =
     ap are_bounded (sym e ∙ ap (λ l. polynomial_of out ++ multiple es c (polynomial_of l)) (dropped qs i t below at))
     ∙ bounded-append (polynomial_of out) _
     ∙ ap (λ b. are_bounded (polynomial_of out) && (b && are_bounded (multiple es c (polynomial_of (drop (i + 1) qs))))) (not_le _ _ passes)
-    ∙ false_right (are_bounded (polynomial_of out))
+    ∙ and-false (are_bounded (polynomial_of out))
 
 -- what is known of a term of a list
 pub bounded-at : (qs : List Term) (i : ℕ) (t : Term) → i < length qs → t ≡ get_or qs i t → are_bounded (polynomial_of qs) ≡ true → unsigned_abs t.coef ≤ MOST_SIZE

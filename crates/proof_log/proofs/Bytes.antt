@@ -2,7 +2,7 @@
 use Rattle.std.proofs.Common.{◌≡◌, ℕ, ◌^◌, ◌<◌, List, [], ◌∷◌, ◌++◌, Bool, true, false, ◌&&◌, nat_le, length, refl, sym, ◌∙◌, ap, arith}
 use Rattle.std.specs.List.{list_all}
 use Rattle.std.specs.Prelude.{decimal}
-use Rattle.std.proofs.lemmas.Bool.{leb-true, le-leb}
+use Rattle.std.proofs.lemmas.Bool.{leb-true, le-leb, and_parts}
 use Rattle.std.proofs.lemmas.List.Folds.{list_all-append}
 use Rattle.poly_model.specs.Names.{are_variables}
 use Rattle.poly_model.specs.Polynomial.{Polynomial, is_over}
@@ -10,7 +10,6 @@ use Rattle.poly_model.specs.Standard.{is_standard}
 use Rattle.poly_model.specs.declared.vars.VarName.{VarName}
 use Rattle.poly_text.specs.Bytes.{is_digit, is_poly_byte}
 use Rattle.poly_text.specs.Text.{poly_text}
-use Rattle.poly_text.proofs.Numbers.{and_parts}
 use Rattle.poly_text.proofs.Plain.{decimal-digits, poly-plain}
 pub use Rattle.proof_log.specs.Cuts.{Avoids, EndsAt}
 

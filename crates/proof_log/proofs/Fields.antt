@@ -7,12 +7,13 @@ use Rattle.std.specs.Str.Parse.{digits_value}
 use Rattle.std.proofs.lemmas.Fmt.{decimal_is_IsNumeral_wide}
 use Rattle.std.proofs.lemmas.Option.{same_Some}
 use Rattle.std.proofs.lemmas.Bool.Decides.{nat_tests}
+use Rattle.std.proofs.lemmas.Bool.{and_parts}
 use Rattle.poly_model.specs.Content.{is_negative, signed_by}
 use Rattle.poly_model.specs.declared.limits.TheConstants.{MOST_SIZE}
 use Rattle.poly_model.specs.declared.limits.Reason.{Reason}
 use Rattle.poly_model.specs.declared.limits.Reason.TheVariants as reason
 use Rattle.poly_text.specs.Bytes.{is_digit}
-use Rattle.poly_text.proofs.Numbers.{and_parts, digits_written}
+use Rattle.poly_text.proofs.Numbers.{digits_written}
 use Rattle.poly_text.proofs.Plain.{decimal-digits}
 use Rattle.proof_log.specs.declared.line.LogLine.{LogLine}
 use Rattle.proof_log.specs.declared.line.LogLine.TheVariants as line

@@ -2,7 +2,7 @@
 use Rattle.std.proofs.Common.{◌≡◌, ℕ, ◌+◌, ◌*◌, ◌^◌, ◌<◌, ◌≤◌, zero, suc, List, [], ◌∷◌, ◌++◌, length, arith, Bool, true, false, cond, ◌==◌, nat_le, nat_eq, length-append}
 use Rattle.std.specs.Prelude.{decimal, unsigned_abs, codes}
 use Rattle.std.proofs.lemmas.Fmt.{length-decimal-le_wide}
-use Rattle.std.proofs.lemmas.Bool.{eqb-true}
+use Rattle.std.proofs.lemmas.Bool.{eqb-true, and_parts}
 use Rattle.poly_model.specs.Polynomial.{Polynomial}
 use Rattle.poly_model.specs.Content.{is_negative}
 use Rattle.poly_model.specs.Names.{number, is_parameter, is_dependent, numbers_of, count_from, are_numbered, are_variables}
@@ -10,7 +10,6 @@ use Rattle.poly_model.specs.declared.vars.VarName.{VarName}
 use Rattle.poly_model.specs.declared.vars.VarName.TheVariants.{U, X}
 use Rattle.poly_model.specs.declared.limits.TheConstants.{MOST_VARIABLES, MOST_DEGREE, MOST_SIZE}
 use Rattle.poly_text.specs.Text.{exponent_text, factor_text, joint_text, factors_text, is_left_out, term_text, sign_text, entry_text, terms_text, poly_text}
-use Rattle.poly_text.proofs.Numbers.{and_parts}
 use Rattle.poly_text.proofs.Factors.{FitExponents}
 use Rattle.poly_text.proofs.Entries.{spare}
 use Rattle.poly_text.proofs.Unique.{AllFit, all_fit, few}

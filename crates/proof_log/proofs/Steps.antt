@@ -1,7 +1,7 @@
 -- Each line that the machine takes leads from what lies before its place to what lies behind it.
 use Rattle.std.proofs.Common.{◌≡◌, ℕ, ◌+◌, ◌-◌, ◌<◌, suc, List, [], ◌∷◌, ◌++◌, map, length, Bool, true, false, ◌&&◌, ◌||◌, ◌==◌, nat_lt, nat_eq, cond, refl, sym, ◌∙◌, ap, arith, Some, None, append_assoc, append-nil, subst, length-append}
 use Rattle.std.specs.List.{list_any}
-use Rattle.std.proofs.lemmas.Bool.{eqb-true}
+use Rattle.std.proofs.lemmas.Bool.{eqb-true, and_parts}
 use Rattle.std.proofs.lemmas.Bool.Decides.{nat_tests}
 use Rattle.std.proofs.lemmas.List.{map-append}
 use Rattle.poly_model.specs.Polynomial.{Polynomial}
@@ -237,10 +237,6 @@ failed : (b : Bool) (u v : Place) → cond b None (Some u) ≡ Some v → (b ≡
 failed true u v e = cc
 failed false u v e = (refl, same u v e)
 
-both_true : (a b : Bool) → (a && b) ≡ true → (a ≡ true) × (b ≡ true)
-both_true true b e = (refl, e)
-both_true false b e = cc
-
 -- the place behind a line has what the line adds
 arrive : (t u v : Place) (p : Part) (ls : List LogLine) → t ≡ record u { part = p } → v ≡ u → At_part p v.proofs v.left v.hyps v.cons v.whole ls → At t ls
 arrive t u v p ls e f a = subst (λ w. At w ls) (sym e) (subst (λ w. At_part p w.proofs w.left w.hyps w.cons w.whole ls) f a)
@@ -280,7 +276,7 @@ module _ (s t : Place) (ls : List LogLine) where
       let b = from (Between s.proofs s.left ls) (line.Prove k) d a ((λ b. b), tt) in
       let next : Place = record s { left = s.left - 1; hyps = 0; cons = 0 } in
       let q = held ((k == (s.proofs - s.left) + 1) && nat_lt 0 s.left) next d.counts d.count in
-      let r = both_true (k == (s.proofs - s.left) + 1) (nat_lt 0 s.left) q.0 in
+      let r = and_parts (k == (s.proofs - s.left) + 1) (nat_lt 0 s.left) q.0 in
       let e : k ≡ s.proofs - s.left + 1 = eqb-true k (s.proofs - s.left + 1) r.0 in
       let some : 0 < s.left = let h = r.1 in grind (arith, nat_tests) in
       arrive t d.counts next part.Prove _ d.behind q.1 (add_prove s.proofs s.left (s.left - 1) k ls b (omega (arith, some)) e, refl, refl)

@@ -1,5 +1,5 @@
 -- Places and the lists that stand there.
-use Rattle.std.proofs.Common.{◌≡◌, ◌≢◌, ℕ, ◌+◌, ◌<◌, ◌≤◌, zero, suc, List, [], ◌∷◌, ◌++◌, length, take, drop, get_or, set, refl, sym, ◌∙◌, ap, Bool, true, false, ◌&&◌, cond, nat_le, arith, append_assoc, length-take, length-drop, length-append}
+use Rattle.std.proofs.Common.{◌≡◌, ◌≢◌, ℕ, ◌+◌, ◌<◌, ◌≤◌, zero, suc, List, [], ◌∷◌, ◌++◌, length, take, drop, get_or, set, refl, sym, ◌∙◌, ap, Bool, true, false, cond, nat_le, arith, append_assoc, length-take, length-drop, length-append}
 use Rattle.std.specs.Prelude.{Option, Some, None}
 use Rattle.std.specs.Ordering.{nat_cmp}
 use Rattle.std.specs.Cmp.{nat_cmp_total}
@@ -7,22 +7,11 @@ use Rattle.std.specs.FinMap.{get, insert, remove, find, get-insert, get-remove, 
 use Rattle.std.proofs.lemmas.Bool.Decides.{nat_tests}
 use Rattle.std.proofs.Math.Seq.{take-append_seam, drop-append_seam}
 use Rattle.std.proofs.lemmas.List.{take-append-le}
+use Rattle.std.proofs.lemmas.Bool.{and_from, and_parts}
 use Rattle.poly_model.specs.declared.term.Term.{Term}
 use Rattle.term_store.specs.declared.space.Place.{Place}
 use Rattle.term_store.specs.Runs.{run_of, run_at, nowhere, list_in, is_inside, are_inside, terms_in, units, gathered, placed, entries_from, lists_of, units_of}
 use Rattle.term_store.proofs.Maps.{same_lists, tied-same, tied-self, tied}
-
-pub both : (a b : Bool) → a ≡ true → b ≡ true → (a && b) ≡ true
-both true b p q = q
-both false b p q = p
-
-pub first : (a b : Bool) → (a && b) ≡ true → a ≡ true
-first true b e = refl
-first false b e = cc
-
-pub second : (a b : Bool) → (a && b) ≡ true → b ≡ true
-second true b e = e
-second false b e = cc
 
 pub le_of : (a b : ℕ) → nat_le a b ≡ true → a ≤ b
 le_of a b e = grind (arith, nat_tests)
@@ -99,10 +88,10 @@ inside-live n p e l = le_of _ _ (sym (ap (λ b. elim b as (λ _. Bool) [ false �
 pub length-gathered : (terms : List Term) (ps : List Place) → are_inside (length terms) ps ≡ true → length (gathered terms ps) ≡ terms_in ps
 length-gathered terms [] e = refl
 length-gathered terms (p ∷ ps) e =
-    let rest = length-gathered terms ps (second (is_inside (length terms) p) _ e) in
+    let rest = length-gathered terms ps (and_parts (is_inside (length terms) p) _ e).1 in
     elim p.live as (λ b. p.live ≡ b → length (elim b as (λ _. List Term) [ false ↦ gathered terms ps | true ↦ run_of terms p ++ gathered terms ps ]) ≡ elim b as (λ _. ℕ) [ false ↦ terms_in ps | true ↦ p.len + terms_in ps ]) [
       | false ↦ λ l. rest
-      | true ↦ λ l. let here = run-length terms p (inside-live _ p (first _ _ e) l) in length-append (run_of terms p) (gathered terms ps) ∙ (λ i. here i + rest i)
+      | true ↦ λ l. let here = run-length terms p (inside-live _ p (and_parts _ _ e).0 l) in length-append (run_of terms p) (gathered terms ps) ∙ (λ i. here i + rest i)
     ] refl
 
 pub length-placed : (at : ℕ) (ps : List Place) → length (placed at ps) ≡ length ps
@@ -124,7 +113,7 @@ units-placed at (p ∷ ps) =
 inside-more : (m n : ℕ) (ps : List Place) → m ≤ n → are_inside m ps ≡ true → are_inside n ps ≡ true
 inside-more m n [] le e = refl
 inside-more m n (p ∷ ps) le e =
-    both _ _ (one p (first (is_inside m p) _ e)) (inside-more m n ps le (second (is_inside m p) _ e))
+    and_from _ _ (one p (and_parts (is_inside m p) _ e).0) (inside-more m n ps le (and_parts (is_inside m p) _ e).1)
   where
     one : (p : Place) → is_inside m p ≡ true → is_inside n p ≡ true
     one p =
@@ -137,8 +126,8 @@ pub inside-placed : (at : ℕ) (ps : List Place) → are_inside (at + terms_in p
 inside-placed at [] = refl
 inside-placed at (p ∷ ps) =
     elim p.live as (λ b. p.live ≡ b → are_inside (at + elim b as (λ _. ℕ) [ false ↦ terms_in ps | true ↦ p.len + terms_in ps ]) (elim b as (λ _. List Place) [ false ↦ p ∷ placed at ps | true ↦ record { live = true; start = at; len = p.len } ∷ placed (at + p.len) ps ]) ≡ true) [
-      | false ↦ λ l. both _ _ (ap (λ b. elim b as (λ _. Bool) [ false ↦ true | true ↦ nat_le (p.start + p.len) (at + terms_in ps) ]) l) (inside-placed at ps)
-      | true ↦ λ l. both _ _ (le_true _ _ (omega arith)) (inside-more (at + p.len + terms_in ps) (at + (p.len + terms_in ps)) (placed (at + p.len) ps) (omega arith) (inside-placed (at + p.len) ps))
+      | false ↦ λ l. and_from _ _ (ap (λ b. elim b as (λ _. Bool) [ false ↦ true | true ↦ nat_le (p.start + p.len) (at + terms_in ps) ]) l) (inside-placed at ps)
+      | true ↦ λ l. and_from _ _ (le_true _ _ (omega arith)) (inside-more (at + p.len + terms_in ps) (at + (p.len + terms_in ps)) (placed (at + p.len) ps) (omega arith) (inside-placed (at + p.len) ps))
     ] refl
 
 -- a run behind a front
@@ -154,16 +143,16 @@ list-gathered front terms (p ∷ ps) zero e =
     (elim b as (λ _. List Place) [ false ↦ p ∷ placed (length front) ps | true ↦ record { live = true; start = length front; len = p.len } ∷ placed (length front + p.len) ps ]) 0
     ≡ elim b as (λ _. Option (List Term)) [ false ↦ None | true ↦ Some (run_of terms p) ]) [
       | false ↦ λ l. ap (λ b. elim b as (λ _. Option (List Term)) [ false ↦ None | true ↦ Some (run_of (front ++ gathered terms ps) p) ]) l
-      | true ↦ λ l. ap Some (run-behind front (run_of terms p) (gathered terms ps) p.len (run-length terms p (inside-live _ p (first _ _ e) l)))
+      | true ↦ λ l. ap Some (run-behind front (run_of terms p) (gathered terms ps) p.len (run-length terms p (inside-live _ p (and_parts _ _ e).0 l)))
     ] refl
 list-gathered front terms (p ∷ ps) (suc k) e =
-    let rest = second (is_inside (length terms) p) _ e in
+    let rest = (and_parts (is_inside (length terms) p) _ e).1 in
     elim p.live as (λ b. p.live ≡ b → list_in (front ++ elim b as (λ _. List Term) [ false ↦ gathered terms ps | true ↦ run_of terms p ++ gathered terms ps ])
     (elim b as (λ _. List Place) [ false ↦ p ∷ placed (length front) ps | true ↦ record { live = true; start = length front; len = p.len } ∷ placed (length front + p.len) ps ]) (suc k)
     ≡ list_in terms ps k) [
       | false ↦ λ l. list-gathered front terms ps k rest
       | true ↦ λ l.
-          let here = run-length terms p (inside-live _ p (first _ _ e) l) in
+          let here = run-length terms p (inside-live _ p (and_parts _ _ e).0 l) in
           let ends : length (front ++ run_of terms p) ≡ length front + p.len = length-append front (run_of terms p) ∙ ap (λ n. length front + n) here in
           (λ i. list_in (sym (append_assoc front (run_of terms p) (gathered terms ps)) i) (placed (sym ends i) ps) k)
           ∙ list-gathered (front ++ run_of terms p) terms ps k rest
@@ -193,16 +182,16 @@ units-set (q ∷ ps) (suc k) p lt =
 
 pub inside-set : (n : ℕ) (ps : List Place) (k : ℕ) (p : Place) → are_inside n ps ≡ true → is_inside n p ≡ true → are_inside n (set ps k p) ≡ true
 inside-set n [] k p e h = refl
-inside-set n (q ∷ ps) zero p e h = both _ _ h (second (is_inside n q) _ e)
-inside-set n (q ∷ ps) (suc k) p e h = both _ _ (first (is_inside n q) _ e) (inside-set n ps k p (second (is_inside n q) _ e) h)
+inside-set n (q ∷ ps) zero p e h = and_from _ _ h (and_parts (is_inside n q) _ e).1
+inside-set n (q ∷ ps) (suc k) p e h = and_from _ _ (and_parts (is_inside n q) _ e).0 (inside-set n ps k p (and_parts (is_inside n q) _ e).1 h)
 
 pub inside-up : (m n : ℕ) (ps : List Place) → m ≤ n → are_inside m ps ≡ true → are_inside n ps ≡ true
 inside-up = inside-more
 
 pub inside-get : (n : ℕ) (ps : List Place) (k : ℕ) → are_inside n ps ≡ true → is_inside n (get_or ps k nowhere) ≡ true
 inside-get n [] k e = refl
-inside-get n (q ∷ ps) zero e = first _ _ e
-inside-get n (q ∷ ps) (suc k) e = inside-get n ps k (second (is_inside n q) _ e)
+inside-get n (q ∷ ps) zero e = (and_parts _ _ e).0
+inside-get n (q ∷ ps) (suc k) e = inside-get n ps k (and_parts (is_inside n q) _ e).1
 
 -- more terms behind
 pub list-behind : (terms more : List Term) (ps : List Place) (k : ℕ) → are_inside (length terms) ps ≡ true → list_in (terms ++ more) ps k ≡ list_in terms ps k

@@ -8,10 +8,11 @@ use Rattle.std.proofs.lemmas.Bool.Decides.{nat_tests}
 use Rattle.std.proofs.Math.ListN.{length-set}
 use Rattle.std.proofs.lemmas.List.{get_or-set_same}
 use Rattle.std.proofs.Math.Seq.{drop-append_seam}
+use Rattle.std.proofs.lemmas.Bool.{and_from, and_parts}
 use Rattle.poly_model.specs.declared.term.Term.{Term}
 use Rattle.term_store.specs.declared.space.Place.{Place}
 use Rattle.term_store.specs.Runs.{run_of, run_at, nowhere, list_in, is_inside, are_inside, terms_in, units, units_of, is_used, gathered, placed, is_last, ends_last, vacated, lists_of, Gathered}
-use Rattle.term_store.proofs.Places.{both, first, second, le_true, inside-live, run-length, length-gathered, length-placed, units-placed, inside-placed, list-gathered, list-set_here, list-set_other, units-set, inside-set, inside-up, inside-get, list-behind, get-lists, lists-set, lists-unset}
+use Rattle.term_store.proofs.Places.{le_true, inside-live, run-length, length-gathered, length-placed, units-placed, inside-placed, list-gathered, list-set_here, list-set_other, units-set, inside-set, inside-up, inside-get, list-behind, get-lists, lists-set, lists-unset}
 
 pub units_of-live : (p : Place) → p.live ≡ true → units_of p ≡ p.len + 1
 units_of-live p l = ap (λ b. elim b as (λ _. ℕ) [ false ↦ 0 | true ↦ p.len + 1 ]) l
@@ -26,13 +27,13 @@ pub inside-of : (n : ℕ) (p : Place) → p.start + p.len ≤ n → is_inside n 
 inside-of n p le = elim p.live as (λ b. elim b as (λ _. Bool) [ false ↦ true | true ↦ nat_le (p.start + p.len) n ] ≡ true) [ false ↦ refl | true ↦ le_true _ _ le ]
 
 pub last-live : (n : ℕ) (p : Place) → is_last n p ≡ true → p.live ≡ true
-last-live n p e = first p.live _ e
+last-live n p e = (and_parts p.live _ e).0
 
 pub last-end : (n : ℕ) (p : Place) → is_last n p ≡ true → p.start + p.len ≡ n
-last-end n p e = let h = second p.live (nat_eq (p.start + p.len) n) e in grind (arith, nat_tests)
+last-end n p e = let h = (and_parts p.live (nat_eq (p.start + p.len) n) e).1 in grind (arith, nat_tests)
 
 pub last-of : (n : ℕ) (p : Place) → p.live ≡ true → p.start + p.len ≡ n → is_last n p ≡ true
-last-of n p l e = both _ _ l (eq _ _ e)
+last-of n p l e = and_from _ _ l (eq _ _ e)
   where
     eq : (a b : ℕ) → a ≡ b → nat_eq a b ≡ true
     eq a b e = grind (arith, nat_tests)
@@ -56,12 +57,12 @@ units-more [] p = omega (arith, units-cons p [])
 units-more (q ∷ ps) p = omega (arith, units-cons q (ps ++ p ∷ []), units-cons q ps, units-more ps p)
 
 pub inside-seat : (n : ℕ) (ps : List Place) (p : Place) → are_inside n ps ≡ true → is_inside n p ≡ true → are_inside n (ps ++ p ∷ []) ≡ true
-inside-seat n [] p e h = both _ _ h refl
-inside-seat n (q ∷ ps) p e h = both _ _ (first (is_inside n q) _ e) (inside-seat n ps p (second (is_inside n q) _ e) h)
+inside-seat n [] p e h = and_from _ _ h refl
+inside-seat n (q ∷ ps) p e h = and_from _ _ (and_parts (is_inside n q) _ e).0 (inside-seat n ps p (and_parts (is_inside n q) _ e).1 h)
 
 pub all-used : (ps : List Place) → list_all is_used ps ≡ true → length ps ≤ units ps
 all-used [] e = omega arith
-all-used (p ∷ ps) e = omega (arith, units-cons p ps, units_of-live p (first p.live (list_all is_used ps) e), all-used ps (second p.live (list_all is_used ps) e))
+all-used (p ∷ ps) e = omega (arith, units-cons p ps, units_of-live p (and_parts p.live (list_all is_used ps) e).0, all-used ps (and_parts p.live (list_all is_used ps) e).1)
 
 -- ---- a list of one term more
 pub units-longer : (ps : List Place) (k : ℕ) (p : Place) → k < length ps → p ≡ get_or ps k nowhere → p.live ≡ true → units (set ps k record { live = p.live; start = p.start; len = p.len + 1 }) ≡ units ps + 1

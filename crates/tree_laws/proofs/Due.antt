@@ -3,7 +3,7 @@ use Rattle.std.proofs.Common.{◌≡◌, ℕ, ◌+◌, ◌-◌, ◌<◌, ◌≤�
 use Rattle.std.specs.Prelude.{◌==◌, Option, Some, None, unwrap_or, option_map, nat_lt, nat_le, if◌then◌else◌, count_by, pos}
 use Rattle.std.specs.List.{list_all, list_any}
 use Rattle.std.specs.Ordering.{int_eq}
-use Rattle.std.proofs.lemmas.Bool.{and_parts, and_from, and_cases, or_cases, or_parts, or_from, or_left, or_right, eqb-true, eqb-false, eq-eqb, ne_eqb, not_from_true, not_from_false, lt-ltb, le-leb, ltb-true, ltb-false, leb-true, both_ways}
+use Rattle.std.proofs.lemmas.Bool.{and_parts, and_from, and_cases, or_cases, or_parts, or_from, or_left, or_right, eqb-true, eqb-false, eq-eqb, ne_eqb, not_from_true, not_from_false, lt-ltb, le-leb, ltb-true, ltb-false, leb-true, both_ways, not-false, and_right}
 use Rattle.std.proofs.lemmas.List.Sums.{sum_by-cons}
 use Rattle.poly_model.specs.Polynomial.{Polynomial}
 use Rattle.proof_steps.specs.Numbers.{item, has, first}
@@ -65,15 +65,11 @@ less-trans a b c p q = by (main_degree a) (main_degree b) (main_degree c) (lengt
 less-self : (a : Polynomial) → is_less a a ≡ false
 less-self a =
     or_from (nat_lt (main_degree a) (main_degree a)) _ (irreflexive (main_degree a))
-    (second (main_degree a == main_degree a) (nat_lt (length a) (length a)) (irreflexive (length a)))
+    (and_right (main_degree a == main_degree a) (nat_lt (length a) (length a)) (irreflexive (length a)))
   where
     irreflexive : (n : ℕ) → nat_lt n n ≡ false
     irreflexive n =
         elim (nat_lt n n) as (λ b. nat_lt n n ≡ b → b ≡ false) [ true ↦ λ e. absurd (let h = ltb-true n n e in omega (arith, h)) | false ↦ λ e. refl ] refl
-
-    second : (a b : Bool) → b ≡ false → (a && b) ≡ false
-    second true b e = e
-    second false b e = refl
 
 pub record Least (x : ℕ) (E : List Polynomial) : Type 0 where
   pub at : ℕ
@@ -118,11 +114,7 @@ least-there x (p ∷ E) i below c = cases (list_any (λ q. class_of q == x) E) r
         missing (q ∷ E) (suc i) w c e = missing E i (omega arith) c (or_parts (class_of q == x) _ e).1
 
     first_is : (p : Polynomial) → not (class_of p == x && is_less p p) ≡ true
-    first_is p = ap not (second (class_of p == x) (is_less p p) (less-self p))
-      where
-        second : (a b : Bool) → b ≡ false → (a && b) ≡ false
-        second true b e = e
-        second false b e = refl
+    first_is p = ap not (and_right (class_of p == x) (is_less p p) (less-self p))
 
     keep : (m : Polynomial) (E : List Polynomial) → is_less p m ≡ true → list_all (λ q. not (class_of q == x && is_less q m)) E ≡ true
         → list_all (λ q. not (class_of q == x && is_less q p)) E ≡ true
@@ -292,12 +284,8 @@ another n x c known = go (first (is_another n x) (length n.eqs)) refl
         elim (and_cases (class_of (item n.eqs (suc i)) == suc x) (not (suc i == least n.eqs (suc x)))
         (none-at (is_another n x) (length n.eqs) i e w)) [
           | inl a ↦ absurd (both_ways _ a (eq-eqb _ _ (ap class_of (item-next n.eqs i) ∙ q)))
-          | inr b ↦ let s = eqb-true (suc i) (least n.eqs (suc x)) (negated _ b) in omega (arith, s)
+          | inr b ↦ let s = eqb-true (suc i) (least n.eqs (suc x)) (not-false _ b) in omega (arith, s)
         ])))
-      where
-        negated : (b : Bool) → not b ≡ false → b ≡ true
-        negated true e = refl
-        negated false e = cc
 
 work-right : (version : ℕ) (n : Node) (x : ℕ) → unsettled_class n ≡ suc x → is_valid version n (work_on n (suc x)) ≡ true
 work-right version n x e =

@@ -2,6 +2,7 @@
 use Rattle.std.proofs.Common.{◌≡◌, List, [], ◌∷◌, ◌++◌, refl, sym, ◌∙◌, ap, Bool, true, false, cond, map, ◌&&◌, ◌||◌, not, append_assoc}
 use Rattle.std.specs.Prelude.{filter, if◌then◌else◌}
 use Rattle.std.proofs.lemmas.List.{append-nil}
+use Rattle.std.proofs.lemmas.Bool.{not-false}
 use Rattle.poly_model.specs.Polynomial.{Polynomial}
 use Rattle.poly_model.specs.Equality.{same-is}
 use Rattle.poly_model.specs.Reduction.{same, has_polynomial}
@@ -41,10 +42,6 @@ unlike true false = refl
 unlike false true = refl
 unlike false false = refl
 
-negated : (b : Bool) → not b ≡ false → b ≡ true
-negated true e = refl
-negated false e = cc
-
 added-is : (xs cs : List Polynomial) → added_all cs xs ≡ cs ++ filter (λ q. not (has_polynomial cs q)) (without_repeats xs)
 added-is [] cs = sym (append-nil cs)
 added-is (x ∷ xs) cs = by (has_polynomial cs x) refl (added-is xs cs) (added-is xs (cs ++ x ∷ []))
@@ -60,7 +57,7 @@ added-is (x ∷ xs) cs = by (has_polynomial cs x) refl (added-is xs cs) (added-i
         → added_all (cs ++ x ∷ []) xs ≡ (cs ++ x ∷ []) ++ filter (λ q. not (has_polynomial (cs ++ x ∷ []) q)) (without_repeats xs)
         → added_all (if b then cs else cs ++ x ∷ []) xs ≡ cs ++ cond (not (has_polynomial cs x)) (x ∷ filter F (filter G (without_repeats xs))) (filter F (filter G (without_repeats xs)))
     by true e here more =
-        here ∙ ap (λ l. cs ++ l) (sym (filter-inside F G (without_repeats xs) (λ q g. ap not (ap (has_polynomial cs) (same-is q x (negated (same q x) g)) ∙ e)))
+        here ∙ ap (λ l. cs ++ l) (sym (filter-inside F G (without_repeats xs) (λ q g. ap not (ap (has_polynomial cs) (same-is q x (not-false (same q x) g)) ∙ e)))
         ∙ ap (λ b. cond (not b) (x ∷ filter F (filter G (without_repeats xs))) (filter F (filter G (without_repeats xs)))) (sym e))
     by false e here more =
         more ∙ append_assoc cs (x ∷ []) (filter (λ q. not (has_polynomial (cs ++ x ∷ []) q)) (without_repeats xs))

@@ -5,6 +5,7 @@ use Rattle.std.specs.List.{list_all}
 use Rattle.std.proofs.lemmas.List.Sums.{sum_by-cons}
 use Rattle.std.proofs.lemmas.List.{length-map, take-map}
 use Rattle.std.proofs.lemmas.Bool.{and_from, eq-eqb, ne_eqb, lt-ltb, le-leb}
+use mathlib.Core.Bool.{and-true, and-false}
 use Rattle.poly_model.proofs.Within.{within-of}
 use Rattle.poly_model.specs.declared.limits.TheConstants.{MOST_VARIABLES}
 use Rattle.poly_model.proofs.Front.{zero-empty}
@@ -103,11 +104,7 @@ number-told : (N : List Polynomial) (h : Held) (p : Polynomial) → Tells N h p 
 number-told N h [] u = λ i. (sym u.class i == 0) && not (sym u.terms i == 0)
 number-told N h (e ∷ p) u =
     sym (number-is (e ∷ p) u.standard (omega arith)) ∙ (λ i. sym u.class i == 0)
-    ∙ and-true (h.class == 0) ∙ ap (λ b. (h.class == 0) && not b) (sym (suc-zero (length p))) ∙ ap (λ n. (h.class == 0) && not (n == 0)) (sym u.terms)
-  where
-    and-true : (b : Bool) → b ≡ (b && true)
-    and-true true = refl
-    and-true false = refl
+    ∙ sym (and-true (h.class == 0)) ∙ ap (λ b. (h.class == 0) && not b) (sym (suc-zero (length p))) ∙ ap (λ n. (h.class == 0) && not (n == 0)) (sym u.terms)
 
 zero-told : (N : List Polynomial) (h : Held) (p : Polynomial) → Tells N h p → is_zero p ≡ (h.terms == 0)
 zero-told N h [] u = ap (λ n. n == 0) (sym u.terms)
@@ -126,16 +123,12 @@ number-tied f N hs t =
 meets-same : (N : List Polynomial) (q h : Held) (r p : Polynomial) → Tells N q r → Tells N h p → same p r ≡ (meets q h && same p r)
 meets-same N q h r p u v =
     elim (same p r) as (λ b. same p r ≡ b → b ≡ (meets q h && b)) [
-      | false ↦ λ e. and-false (meets q h)
+      | false ↦ λ e. sym (and-false (meets q h))
       | true ↦ λ e.
           let is = same-is p r e in
           ap (λ b. b && true) (sym (and_from ((q.class == h.class) && (q.degree == h.degree)) _ (and_from (q.class == h.class) _ (eq-eqb _ _ (u.class ∙ ap class_of (sym is) ∙ sym v.class)) (eq-eqb _ _ (u.degree ∙ ap main_degree (sym is) ∙ sym v.degree)))
           (eq-eqb _ _ (u.terms ∙ ap length (sym is) ∙ sym v.terms))))
     ] refl
-  where
-    and-false : (b : Bool) → false ≡ (b && false)
-    and-false true = refl
-    and-false false = refl
 
 among-tied : (f : Held → Polynomial) (N : List Polynomial) (hs : List Held) (h : Held) → AllTell N hs (map f hs) → Tells N h (f h) → has_polynomial (map f hs) (f h) ≡ among_in f hs h
 among-tied f N [] h t u = refl

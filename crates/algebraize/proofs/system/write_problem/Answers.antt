@@ -4,6 +4,7 @@ use Rattle.desk_io.proofs.Writing.{first_failed, next_failed, last_writes}
 use Rattle.algebraize.specs.Formed.{equations}
 use Rattle.algebraize.specs.System.{line_end, polynomial_lines}
 use Rattle.std.specs.List.{list_all}
+use Rattle.std.proofs.lemmas.Bool.{and_parts}
 use Rattle.poly_model.specs.Polynomial.{is_over}
 use Rattle.algebraize.proofs.Texts as lines
 use Rattle.algebraize.proofs.system.write_problem.Goals as goal
@@ -12,13 +13,13 @@ pub write_polynomials-requires : goal.write_polynomials-requires
 write_polynomials-requires g c =
     let n = length c.args.problem.now.vars in
     subst (λ l. IsTrue (list_all (is_over n) l)) (sym c.as_slice.ensures)
-    (lines.first_holds (list_all (is_over n) c.args.problem.now.hyps) (list_all (is_over n) c.args.problem.now.cons) c.requires)
+    (and_parts (list_all (is_over n) c.args.problem.now.hyps) (list_all (is_over n) c.args.problem.now.cons) c.requires).0
 
 pub write_polynomials-requires-2 : goal.write_polynomials-requires-2
 write_polynomials-requires-2 g c =
     let n = length c.args.problem.now.vars in
     subst (λ l. IsTrue (list_all (is_over n) l)) (sym c.as_slice-2.ensures)
-    (lines.second_holds (list_all (is_over n) c.args.problem.now.hyps) (list_all (is_over n) c.args.problem.now.cons) c.requires)
+    (and_parts (list_all (is_over n) c.args.problem.now.hyps) (list_all (is_over n) c.args.problem.now.cons) c.requires).1
 
 pub returns-in_err-write_head-clause-bytes : goal.returns-in_err-write_head-clause-bytes
 returns-in_err-write_head-clause-bytes g c =

@@ -1,5 +1,6 @@
 use Rattle.std.proofs.Common.{true, false, not, ◌≡◌, [], get_or, refl, sym, ◌∙◌, ap, arith}
 use Rattle.std.specs.Prelude.{pos}
+use Rattle.std.proofs.lemmas.Bool.{not-false}
 use Rattle.poly_model.specs.Reduction.{same}
 use Rattle.poly_model.specs.Standard.{polynomial_of}
 use Rattle.poly_model.specs.declared.term.Term.{Term}
@@ -30,7 +31,7 @@ loop-i-preserved g c =
     let ts = c.terms-terms.result.now in
     let t = c.get.result in
     let u : Term = get_or ts c.loop-i.i (record { coef = pos 0; exps = [] }) in
-    let one = (term_decides t u).0 (reading.not_false _ (sym c.ne.ensures ∙ c.if-ne.false)) in
+    let one = (term_decides t u).0 (not-false _ (sym c.ne.ensures ∙ c.if-ne.false)) in
     reading.same-next xs ts c.loop-i.i t u (omega arith) c.get.ensures (omega arith) (dues.there ts c.loop-i.i _ u u (omega arith) refl) one ∙ c.loop-i.invariant
 
 pub returns : goal.returns

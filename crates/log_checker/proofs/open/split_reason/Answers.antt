@@ -1,7 +1,7 @@
 use Rattle.std.proofs.Common.{◌≡◌, ◌<◌, ℕ, length, ◌∷◌, [], ◌∙◌, ap, sym, subst, true, false}
 use Rattle.std.specs.Prelude.{Option, Some, None, MatchOption, is_none}
 use Rattle.std.specs.List.{list_any}
-use Rattle.std.proofs.lemmas.Bool.{and_parts}
+use Rattle.std.proofs.lemmas.Bool.{and_parts, not-true}
 use Rattle.poly_model.specs.Polynomial.{Polynomial}
 use Rattle.poly_model.specs.Reduction.{is_constant, primitive_initial}
 use Rattle.poly_model.specs.declared.limits.TheConstants.{MOST_LETTERS}
@@ -41,7 +41,7 @@ children-requires-clause-has g c =
 pub children-requires-clause-class : goal.children-requires-clause-class
 children-requires-clause-class g c =
     let d = subst (Split 1 c.args.node.now c.args.f) c.in-Gives.is (c.in_ok-try_split.ensures 1) in
-    ap (λ (m : Node). is_constant (item m.eqs c.args.f)) c.in_ok-copy-in-Gives.ensures ∙ fitness.not-true (is_constant (item c.args.node.now.eqs c.args.f)) (and_parts (has c.args.node.now.eqs c.args.f) _ d.0).1
+    ap (λ (m : Node). is_constant (item m.eqs c.args.f)) c.in_ok-copy-in-Gives.ensures ∙ not-true (is_constant (item c.args.node.now.eqs c.args.f)) (and_parts (has c.args.node.now.eqs c.args.f) _ d.0).1
 
 pub children-requires-clause-initial : goal.children-requires-clause-initial
 children-requires-clause-initial g c =

@@ -1,7 +1,7 @@
 use Rattle.std.proofs.Common.{◌≡◌, ◌<◌, ℕ, length, [], ◌∷◌, ◌∙◌, ap, sym, subst, true, false}
 use Rattle.std.specs.Prelude.{Option, Some, None, MatchOption, if◌then◌else◌}
 use Rattle.std.specs.List.{list_any}
-use Rattle.std.proofs.lemmas.Bool.{and_parts}
+use Rattle.std.proofs.lemmas.Bool.{and_parts, not-false, not-true}
 use Rattle.poly_model.specs.Polynomial.{Polynomial}
 use Rattle.poly_model.specs.Reduction.{same, is_constant, primitive_initial}
 use Rattle.poly_model.specs.declared.limits.TheConstants.{MOST_LETTERS}
@@ -37,7 +37,7 @@ returns-then-ne g c version =
     let f = c.args.f in
     let d = subst (Split version n f) c.in-Gives.is (c.in_ok-initial.ensures version) in
     fitness.untold _ (same c.args.told (primitive_initial (item n.eqs f))) (listed (Ended (made version n (attempt.Split f)) (Parts c.args.told)))
-    (sym (ap (same c.args.told) d.2.0) ∙ fitness.not-then _ _ c.ne.ensures c.if-ne.true)
+    (sym (ap (same c.args.told) d.2.0) ∙ not-true _ (sym c.ne.ensures ∙ c.if-ne.true))
 
 pub children-requires-clause-has : goal.children-requires-clause-has
 children-requires-clause-has g c =
@@ -47,7 +47,7 @@ children-requires-clause-has g c =
 pub children-requires-clause-class : goal.children-requires-clause-class
 children-requires-clause-class g c =
     let d = subst (Split 1 c.args.node c.args.f) c.in-Gives.is (c.in_ok-initial.ensures 1) in
-    fitness.not-true (is_constant (item c.args.node.eqs c.args.f)) (and_parts (has c.args.node.eqs c.args.f) _ d.0).1
+    not-true (is_constant (item c.args.node.eqs c.args.f)) (and_parts (has c.args.node.eqs c.args.f) _ d.0).1
 
 pub children-requires-clause-initial : goal.children-requires-clause-initial
 children-requires-clause-initial g c = (subst (Split 1 c.args.node c.args.f) c.in-Gives.is (c.in_ok-initial.ensures 1)).2.0
@@ -66,7 +66,7 @@ returns-in-None g c version =
     let k = subst (Children n f) c.in-None.is c.in_ok-plus.ensures in
     ap (λ b. if b then None else Some (There n f c.args.told)) (sym k)
     ∙ fitness.done (is_valid version n (attempt.Split f)) (limit_of version n (attempt.Split f)) (list_any is_short (split_children n f)) (same c.args.told (primitive_initial (item n.eqs f)))
-    (There n f c.args.told) d.0 d.1 (sym (ap (same c.args.told) d.2.0) ∙ fitness.not-else _ _ c.ne.ensures c.if-ne.false)
+    (There n f c.args.told) d.0 d.1 (sym (ap (same c.args.told) d.2.0) ∙ not-false _ (sym c.ne.ensures ∙ c.if-ne.false))
 
 pub returns-in-Some : goal.returns-in-Some
 returns-in-Some g c version =
@@ -77,4 +77,4 @@ returns-in-Some g c version =
     ap (λ ms. Some (listed (Ended ms (Parts c.args.told)))) (sym k.1)
     ∙ ap (λ b. if b then None else Some (There n f c.args.told)) (sym k.0)
     ∙ fitness.done (is_valid version n (attempt.Split f)) (limit_of version n (attempt.Split f)) (list_any is_short (split_children n f)) (same c.args.told (primitive_initial (item n.eqs f)))
-    (There n f c.args.told) d.0 d.1 (sym (ap (same c.args.told) d.2.0) ∙ fitness.not-else _ _ c.ne.ensures c.if-ne.false)
+    (There n f c.args.told) d.0 d.1 (sym (ap (same c.args.told) d.2.0) ∙ not-false _ (sym c.ne.ensures ∙ c.if-ne.false))

@@ -1,6 +1,6 @@
 use Rattle.std.proofs.Common.{◌≡◌, ℕ, ◌+◌, length, ◌∙◌, ap, sym, subst, refl, true, false}
 use Rattle.std.specs.Prelude.{Option, Some, None, MatchOption}
-use Rattle.std.proofs.lemmas.Bool.{and_parts}
+use Rattle.std.proofs.lemmas.Bool.{and_parts, not-false, not-true}
 use Rattle.poly_model.specs.Polynomial.{Polynomial}
 use Rattle.poly_model.specs.Reduction.{same, primitive_tail}
 use Rattle.proof_steps.specs.Numbers.{item, has, replaced}
@@ -28,7 +28,7 @@ pub returns-then-ne : goal.returns-then-ne
 returns-then-ne g c version =
     let n = c.args.node in
     let d = subst (Tailed version n c.args.f) c.in-Some.is (c.in_ok-tail.ensures version) in
-    fitness.untold _ (tells_result n (step.Tail c.args.f c.args.r)) (cut n c.args.f) (sym (ap (same c.args.r) d.1) ∙ fitness.not-then _ _ c.ne.ensures c.if-ne.true)
+    fitness.untold _ (tells_result n (step.Tail c.args.f c.args.r)) (cut n c.args.f) (sym (ap (same c.args.r) d.1) ∙ not-true _ (sym c.ne.ensures ∙ c.if-ne.true))
 
 pub with_equation-requires : goal.with_equation-requires
 with_equation-requires g c =
@@ -43,4 +43,4 @@ returns g c version =
     c.with_fuel.ensures
     ∙ fitness.settled c.with_equation.result (cut n c.args.f) (c.with_equation.ensures ∙ ap (λ y. after n (replaced n.eqs c.args.f y) (1 + length y)) d.1)
     ∙ fitness.done (is_valid version n (attempt.Tail c.args.f)) None _ _ (cut n c.args.f) d.0 refl
-    (sym (ap (same c.args.r) d.1) ∙ fitness.not-else _ _ c.ne.ensures c.if-ne.false)
+    (sym (ap (same c.args.r) d.1) ∙ not-false _ (sym c.ne.ensures ∙ c.if-ne.false))

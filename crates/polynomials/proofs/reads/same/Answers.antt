@@ -1,4 +1,5 @@
 use Rattle.std.proofs.Common.{true, false, not, ◌≡◌, sym, ◌∙◌, ap, arith}
+use Rattle.std.proofs.lemmas.Bool.{not-false}
 use Rattle.poly_model.proofs.Same.{term_decides}
 use Rattle.term_store.specs.States.{list_at}
 use Rattle.polynomials.proofs.Reading as reading
@@ -25,5 +26,5 @@ loop-i-preserved g c =
     let ys = list_at (g.S.TermStore.state c.args.s.now).lists c.args.b.slot.0 in
     let t = c.get.result in
     let u = c.get-in-loop-i.result in
-    let one = (term_decides t u).0 (reading.not_false _ (sym c.ne.ensures ∙ c.if-ne.false)) in
+    let one = (term_decides t u).0 (not-false _ (sym c.ne.ensures ∙ c.if-ne.false)) in
     reading.same-next xs ys c.loop-i.i t u (omega arith) c.get.ensures (omega arith) c.get-in-loop-i.ensures one ∙ c.loop-i.invariant
