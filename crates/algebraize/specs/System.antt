@@ -1,6 +1,7 @@
 -- The text that lists the problems of the proves.
 use Rattle.std.specs.Prelude.{ℕ, ◌+◌, List, [], ◌∷◌, ◌++◌, codes, decimal}
 use Rattle.std.specs.List.{flat_map}
+use Rattle.desk_io.specs.Characters.{line_feed}
 use Rattle.poly_model.specs.Polynomial.{Polynomial}
 use Rattle.poly_model.specs.declared.vars.VarName.{VarName}
 use Rattle.poly_text.specs.Text.{variable_text, poly_text}
@@ -8,7 +9,7 @@ use Rattle.algebraize.specs.Equations.{Equations}
 
 -- The end of a line.
 abbrev pub line_end : List ℕ
-line_end = 10 ∷ []
+line_end = line_feed ∷ []
 
 -- A variable behind a blank.
 abbrev pub name_text : VarName → List ℕ

@@ -1,4 +1,5 @@
 pub mod Causes
+pub mod Characters
 pub mod Files
 pub mod Bytes
 pub mod Memory

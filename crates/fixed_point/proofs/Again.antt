@@ -13,7 +13,8 @@ use Rattle.std.proofs.lemmas.Grind.{common_steps}
 use Rattle.std.proofs.lemmas.Bool.{and_parts}
 use Rattle.std.proofs.lemmas.Bool.Decides.{nat_tests}
 use Rattle.fixed_point.specs.declared.limits.TheConstants.{MOST_DECIMALS, MOST_MILLIONTHS}
-use Rattle.fixed_point.specs.Decimal.{value_from, is_digit}
+use Rattle.fixed_point.specs.Decimal.{value_from}
+use Rattle.desk_io.specs.Characters.{is_digit}
 use Rattle.fixed_point.specs.Text.{decimals_text}
 
 abbrev Value : ℕ → ℕ → ℕ → Type 0

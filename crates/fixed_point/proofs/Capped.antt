@@ -3,7 +3,8 @@ use Rattle.std.proofs.Common.{◌≡◌, ℕ, ◌+◌, ◌-◌, ◌*◌, ◌≤�
 use Rattle.std.specs.List.{list_all}
 use Rattle.std.proofs.lemmas.Grind.{common_steps}
 use Rattle.std.proofs.lemmas.Bool.{and_parts}
-use Rattle.fixed_point.specs.Decimal.{value_from, is_digit}
+use Rattle.fixed_point.specs.Decimal.{value_from}
+use Rattle.desk_io.specs.Characters.{is_digit}
 
 cut-twice : (c n : ℕ) → min (min n c) c ≡ min n c
 cut-twice c n = omega arith

@@ -1,27 +1,24 @@
 -- What the text of a number says: its value in millionths, or why it is no number.
-use Rattle.std.specs.Prelude.{ℕ, ◌+◌, ◌-◌, ◌*◌, ◌^◌, List, [], ◌∷◌, length, take, drop, Bool, false, if◌then◌else◌, ◌&&◌, ◌||◌, not, ◌==◌, nat_le, nat_lt, ℤ, pos, neg_ℤ, Result, Ok, Err, position, Option, Some, None}
+use Rattle.std.specs.Prelude.{ℕ, ◌+◌, ◌-◌, ◌*◌, ◌^◌, List, [], ◌∷◌, length, take, drop, Bool, false, if◌then◌else◌, ◌&&◌, ◌||◌, not, ◌==◌, nat_lt, ℤ, pos, neg_ℤ, Result, Ok, Err, position, Option, Some, None}
 use Rattle.std.specs.List.{list_all}
+use Rattle.desk_io.specs.Characters.{digit_zero, full_stop, is_digit, minus, plus}
 use Rattle.fixed_point.specs.declared.limits.TheConstants.{MOST_DECIMALS, MOST_MILLIONTHS}
 use Rattle.fixed_point.specs.declared.fault.NumberFault.{NumberFault}
 use Rattle.fixed_point.specs.declared.fault.NumberFault.TheVariants.{NotNumber, TooLong, TooFar}
 
--- A decimal digit.
-abbrev pub is_digit : ℕ → Bool
-is_digit b = nat_le 48 b && nat_le b 57
-
 -- The text begins with a minus.
 abbrev pub is_negative : List ℕ → Bool
 is_negative [] = false
-is_negative (b ∷ bs) = b == 45
+is_negative (b ∷ bs) = b == minus
 
 -- The text behind its sign, if it has one.
 abbrev pub unsigned_of : List ℕ → List ℕ
 unsigned_of [] = []
-unsigned_of (b ∷ bs) = if b == 43 || b == 45 then bs else (b ∷ bs)
+unsigned_of (b ∷ bs) = if b == plus || b == minus then bs else (b ∷ bs)
 
 -- The place of the first point.
 abbrev pub point_in : List ℕ → Option ℕ
-point_in text = position (λ b. b == 46) text
+point_in text = position (λ b. b == full_stop) text
 
 -- The text up to a point.
 abbrev pub whole_at : Option ℕ → List ℕ → List ℕ
@@ -36,7 +33,7 @@ decimals_at (Some i) text = drop (i + 1) text
 -- The number that decimal digits spell behind a number.
 unfoldable pub value_from : ℕ → List ℕ → ℕ
 value_from n [] = n
-value_from n (b ∷ bs) = value_from (10 * n + (b - 48)) bs
+value_from n (b ∷ bs) = value_from (10 * n + (b - digit_zero)) bs
 
 -- Both sides of the point are digits, and there is one at least.
 abbrev pub is_number : List ℕ → List ℕ → Bool

@@ -1,6 +1,7 @@
 ghost use Rattle.std.specs.Prelude.{◌≡◌, ◌+◌, ◌-◌, ◌*◌, ◌≤◌, ◌<◌, ◌^◌, ℕ, ℤ, pos, length, min, IsTrue, IfSome, Ok, Err};
 ghost use Rattle.std.specs.List.{list_all};
-ghost use Rattle.fixed_point.specs.Decimal.{is_digit, is_number, is_negative, unsigned_of, point_in, whole_at, decimals_at, value_from, millionths, signed, fix_of_parts, fix_of};
+ghost use Rattle.fixed_point.specs.Decimal.{is_number, is_negative, unsigned_of, point_in, whole_at, decimals_at, value_from, millionths, signed, fix_of_parts, fix_of};
+ghost use Rattle.desk_io.specs.Characters.{is_digit};
 
 use crate::fault::NumberFault;
 use crate::fix::Fix;

@@ -5,7 +5,8 @@ use Rattle.std.proofs.lemmas.List.Sums.{take_while-cons}
 use Rattle.std.proofs.lemmas.Grind.{common_steps}
 use Rattle.std.proofs.lemmas.Bool.{or_parts, not-true}
 use Rattle.std.proofs.lemmas.Bool.Decides.{nat_tests}
-use Rattle.gcl_reader.specs.Tokens.{Token, Lexed, Between, Inside, tokens_from, last_line, ahead_of, put, is_word, is_brace, is_blank, begins_token, percent, line_feed}
+use Rattle.gcl_reader.specs.Tokens.{Token, Lexed, Between, Inside, tokens_from, last_line, ahead_of, put, is_word, is_brace, is_blank, begins_token}
+use Rattle.desk_io.specs.Characters.{percent, line_feed}
 
 abbrev word_len : List ℕ → ℕ
 word_len bytes = length (take_while is_word bytes)

@@ -6,7 +6,7 @@ use Rattle.std.proofs.lemmas.Grind.{common_steps}
 use Rattle.std.proofs.lemmas.Nat.{div_below}
 use Rattle.std.proofs.lemmas.Bool.{and_parts}
 use Rattle.std.proofs.lemmas.Bool.Decides.{nat_tests}
-use Rattle.fixed_point.specs.Decimal.{is_digit}
+use Rattle.desk_io.specs.Characters.{is_digit}
 use Rattle.fixed_point.specs.Text.{number_text, size_text, decimals_text, point_text}
 use Rattle.fixed_point.specs.declared.limits.TheConstants.{MOST_DECIMALS, MOST_MILLIONTHS}
 use Rattle.fixed_point.proofs.Again.{again, whole-written, power, positive}

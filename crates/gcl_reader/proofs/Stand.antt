@@ -4,7 +4,8 @@ use Rattle.std.specs.Prelude.{count_by, if◌then◌else◌}
 use Rattle.std.specs.List.{AllByRecursion, take_while}
 use Rattle.std.proofs.lemmas.List.Sums.{take_while-cons, sum_by-append}
 use Rattle.std.proofs.lemmas.Grind.{common_steps}
-use Rattle.gcl_reader.specs.Tokens.{Token, Mode, Between, tokens_from, mode_after, line_after, text_from, begins, is_word, is_brace, line_feed}
+use Rattle.gcl_reader.specs.Tokens.{Token, Mode, Between, tokens_from, mode_after, line_after, text_from, begins, is_word, is_brace}
+use Rattle.desk_io.specs.Characters.{line_feed}
 use Rattle.gcl_reader.specs.Standing.{is_line_feed, StandsIn, TokensStand}
 
 drop-front : (front bs : List ℕ) → drop (length front) (front ++ bs) ≡ bs

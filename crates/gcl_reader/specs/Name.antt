@@ -1,15 +1,16 @@
 -- Which texts are names.
 use Rattle.std.specs.Prelude.{ℕ, List, [], ◌∷◌, length, Bool, false, if◌then◌else◌, ◌&&◌, ◌||◌, ◌==◌, nat_le, nat_lt, Option, Some, None}
 use Rattle.std.specs.List.{list_all}
+use Rattle.desk_io.specs.Characters.{apostrophe, capital_a, capital_z, is_digit, low_line, small_a, small_z}
 use Rattle.gcl_reader.specs.declared.limits.TheConstants.{LONGEST_NAME}
 
 -- A to Z, a to z.
 abbrev pub is_letter : ℕ → Bool
-is_letter b = (nat_le 65 b && nat_le b 90) || (nat_le 97 b && nat_le b 122)
+is_letter b = (nat_le capital_a b && nat_le b capital_z) || (nat_le small_a b && nat_le b small_z)
 
 -- A letter, a digit, an underscore or an apostrophe.
 abbrev pub is_name_byte : ℕ → Bool
-is_name_byte b = is_letter b || (nat_le 48 b && nat_le b 57) || (b == 95) || (b == 39)
+is_name_byte b = is_letter b || is_digit b || (b == low_line) || (b == apostrophe)
 
 -- A letter, and at most 31 letters, digits, underscores and apostrophes.
 unfoldable pub is_name : List ℕ → Bool

@@ -1,7 +1,8 @@
 -- Where the tokens of a file stand: found in the whole file, and not on a walk through it.
 use Rattle.std.specs.Prelude.{◌≡◌, ℕ, ◌+◌, List, length, take, drop, Bool, ◌==◌, count_by}
 use Rattle.std.specs.List.{AllByRecursion}
-use Rattle.gcl_reader.specs.Tokens.{Token, tokens, line_feed}
+use Rattle.gcl_reader.specs.Tokens.{Token, tokens}
+use Rattle.desk_io.specs.Characters.{line_feed}
 
 abbrev pub is_line_feed : ℕ → Bool
 is_line_feed b = b == line_feed

@@ -1,34 +1,13 @@
 -- The tokens of a file, and where they stand.
 use Rattle.std.specs.Prelude.{ℕ, ◌+◌, List, [], ◌∷◌, length, Bool, false, if◌then◌else◌, ◌&&◌, ◌||◌, not, ◌==◌, nat_le, IsTrue}
 use Rattle.std.specs.List.{take_while}
+use Rattle.desk_io.specs.Characters.{carriage_return, close_brace, line_feed, open_brace, percent, space, tab}
 
 -- A token, and where it stands. A byte that is no text is a token without text.
 pub record Token : Type 0 where
   pub line : ℕ
   pub at : ℕ
   pub text : List ℕ
-
--- The bytes that have a meaning of their own.
-abbrev pub tab : ℕ
-tab = 9
-
-abbrev pub line_feed : ℕ
-line_feed = 10
-
-abbrev pub carriage_return : ℕ
-carriage_return = 13
-
-abbrev pub space : ℕ
-space = 32
-
-abbrev pub percent : ℕ
-percent = 37
-
-abbrev pub open_brace : ℕ
-open_brace = 123
-
-abbrev pub close_brace : ℕ
-close_brace = 125
 
 -- The first and the last of the visible ASCII characters: the exclamation mark and the tilde.
 abbrev pub first_visible : ℕ

@@ -1,6 +1,7 @@
 -- The text of a picture for LaTeX: a picture environment with a line for each shape. Numbers are millimetres.
 use Rattle.std.specs.Prelude.{ℕ, ◌+◌, ◌*◌, List, [], ◌∷◌, ◌++◌, zero, suc, codes, decimal, get_or, take, drop, position, Option, Some, None, ◌==◌, ℤ, pos, ◌*ℤ◌, if◌then◌else◌}
 use Rattle.std.specs.List.{flat_map}
+use Rattle.desk_io.specs.Characters.{low_line}
 use Rattle.fixed_point.specs.Text.{number_text}
 use Rattle.fixed_point.specs.declared.limits.TheConstants.{TICK_DECIMALS}
 use Rattle.fixed_point.specs.declared.spot.Spot.{Spot}
@@ -58,11 +59,7 @@ ring_text ink a = row (
     codes "\\put(" ∷ length_text a.x ∷ codes "," ∷ length_text a.y ∷ codes "){\\color[RGB]{" ∷ decimal ink.r ∷ codes "," ∷ decimal ink.g ∷ codes "," ∷ decimal ink.b
     ∷ codes "}\\circle{1.2}}\n" ∷ [])
 
--- The byte that parts a name from what stands lower.
-abbrev pub low_line : ℕ
-low_line = 95
-
--- A byte of what stands lower: a further low line is shown as one.
+-- A byte of what stands lower, behind the low line that parts it from the name: a further low line is shown as one.
 abbrev pub lower_text : ℕ → List ℕ
 lower_text b = if b == low_line then codes "\\_" else b ∷ []
 

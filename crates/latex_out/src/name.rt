@@ -3,7 +3,8 @@ ghost use Rattle.std.specs.Prelude.{◌≡◌, ◌<◌, ◌==◌, List, ℕ, IfS
 ghost use Rattle.std.specs.List.{flat_map};
 ghost use Rattle.desk_io.specs.Causes.{HasCause};
 ghost use Rattle.desk_io.specs.Bytes.{Writes};
-ghost use Rattle.latex_out.specs.Latex.{low_line, lower_text, lowered_text, name_text};
+ghost use Rattle.latex_out.specs.Latex.{lower_text, lowered_text, name_text};
+ghost use Rattle.desk_io.specs.Characters.{low_line};
 
 use crate::line::{write_opened, write_plain};
 use desk_io::{Failed, Pen, Sink};

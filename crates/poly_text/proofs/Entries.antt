@@ -10,7 +10,7 @@ use Rattle.poly_model.specs.declared.vars.VarName.{VarName}
 use Rattle.poly_model.specs.declared.vars.VarName.TheVariants.{U, X}
 use Rattle.poly_model.specs.declared.limits.TheConstants.{MOST_VARIABLES, MOST_SIZE}
 use Rattle.poly_text.specs.Text.{is_left_out, factors_text, term_text, sign_text, entry_text}
-use Rattle.poly_text.specs.Bytes.{is_digit}
+use Rattle.desk_io.specs.Characters.{is_digit}
 use Rattle.poly_text.specs.Reading.{number_from, number_at, Size, size_or_one, size_at, factors_at, is_spelled, entry_of_parts, term_at, sign_at, term_behind, entry_at}
 use Rattle.poly_text.proofs.Numbers.{begins_digit, number_at-complete, number_at-sound, given, digits_written}
 use Rattle.poly_text.proofs.Factors.{ends, goes_on, Named, FitExponents, factors-follow, factors-complete, factors-sound}

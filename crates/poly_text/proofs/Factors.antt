@@ -7,7 +7,7 @@ use Rattle.poly_model.specs.declared.vars.VarName.TheVariants.{U, X}
 use Rattle.poly_model.specs.declared.limits.TheConstants.{MOST_DEGREE}
 use Rattle.poly_model.specs.Names.{number}
 use Rattle.poly_text.specs.Text.{letter, exponent_text, factor_text, joint_text, factors_text}
-use Rattle.poly_text.specs.Bytes.{is_digit}
+use Rattle.desk_io.specs.Characters.{is_digit}
 use Rattle.poly_text.specs.Reading.{number_at, behind, numbered, number_of, name_at, above_one, exponent_at, joint_at, name_behind, exponent_behind, factor_at, factors_at}
 use Rattle.poly_text.proofs.Numbers.{begins_digit, number_at-complete, number_at-sound, given}
 

@@ -6,7 +6,7 @@ use Rattle.std.proofs.lemmas.Fmt.{decimal_is_IsNumeral_wide, decimal_digit, deci
 use Rattle.std.proofs.lemmas.Str.Parse.{IsNumeralModel, numerals_by_fold}
 use Rattle.std.proofs.lemmas.Bool.Decides.{nat_tests}
 use Rattle.std.proofs.lemmas.Bool.{and_parts, not-true}
-use Rattle.poly_text.specs.Bytes.{is_digit}
+use Rattle.desk_io.specs.Characters.{is_digit}
 use Rattle.poly_text.specs.Reading.{number_from, begins_number, number_at}
 
 -- ---- a number that is cut at the greatest of its type

@@ -12,7 +12,8 @@ use Rattle.poly_model.specs.Standard.{is_standard}
 use Rattle.poly_model.specs.declared.vars.VarName.{VarName}
 use Rattle.poly_model.specs.declared.vars.VarName.TheVariants.{U, X}
 use Rattle.poly_model.specs.declared.limits.TheConstants.{MOST_DEGREE, MOST_SIZE}
-use Rattle.poly_text.specs.Bytes.{is_digit, is_poly_byte}
+use Rattle.poly_text.specs.Bytes.{is_poly_byte}
+use Rattle.desk_io.specs.Characters.{is_digit}
 use Rattle.poly_text.specs.Text.{exponent_text, factor_text, joint_text, factors_text, is_left_out, term_text, sign_text, entry_text, terms_text, poly_text}
 use Rattle.poly_text.proofs.Numbers.{own}
 use Rattle.poly_text.proofs.Factors.{Named, FitExponents}

@@ -1,11 +1,11 @@
 -- How a polynomial's text is read, piece by piece: what each piece says, and the text behind it.
 use Rattle.std.specs.Prelude.{◌≡◌, ◌≢◌, ◌<◌, ◌≤◌, ℕ, ◌+◌, ◌-◌, ◌*◌, List, [], ◌∷◌, Bool, true, false, if◌then◌else◌, ◌&&◌, ◌==◌, not, nat_le, nat_lt, Option, Some, None, replicate, length, get_or, pos}
+use Rattle.desk_io.specs.Characters.{caret, digit_zero, is_digit, minus, plus, space, star}
 use Rattle.poly_model.specs.Polynomial.{Entry}
 use Rattle.poly_model.specs.Content.{signed_by}
 use Rattle.poly_model.specs.declared.vars.VarName.{VarName}
 use Rattle.poly_model.specs.declared.limits.TheConstants.{MOST_VARIABLES, MOST_DEGREE, MOST_SIZE}
 use Rattle.poly_model.specs.Names.{number}
-use Rattle.poly_text.specs.Bytes.{digit_zero, is_digit, blank, star, plus, minus, caret}
 use Rattle.poly_text.specs.Text.{letter, is_left_out}
 
 -- The number that digits spell behind a number.
@@ -128,7 +128,7 @@ sign_at false [] = None
 sign_at false (a ∷ []) = None
 sign_at false (a ∷ b ∷ []) = None
 sign_at false (a ∷ b ∷ c ∷ text) =
-    if a == blank && c == blank then (if b == minus then Some (true, text) else (if b == plus then Some (false, text) else None)) else None
+    if a == space && c == space then (if b == minus then Some (true, text) else (if b == plus then Some (false, text) else None)) else None
 
 -- The term behind its sign, if that was read.
 abbrev pub term_behind : List VarName → Option (Bool × List ℕ) → Option (Entry × List ℕ)

@@ -1,17 +1,17 @@
 -- The text of a polynomial over named variables.
 use Rattle.std.specs.Prelude.{ℕ, zero, suc, List, [], ◌∷◌, ◌++◌, Bool, true, false, if◌then◌else◌, ◌&&◌, ◌==◌, nat_lt, unsigned_abs, codes, decimal}
 use Rattle.std.specs.List.{list_any}
+use Rattle.desk_io.specs.Characters.{small_u, small_x}
 use Rattle.poly_model.specs.Polynomial.{Entry, Polynomial}
 use Rattle.poly_model.specs.Content.{is_negative}
 use Rattle.poly_model.specs.Names.{number}
-use Rattle.poly_text.specs.Bytes.{letter_u, letter_x}
 use Rattle.poly_model.specs.declared.vars.VarName.{VarName}
 use Rattle.poly_model.specs.declared.vars.VarName.TheVariants.{U, X}
 
 -- The byte of a variable's kind, `u` or `x`.
 abbrev pub letter : VarName → ℕ
-letter (U n) = letter_u
-letter (X n) = letter_x
+letter (U n) = small_u
+letter (X n) = small_x
 
 -- A variable: the letter of its kind and its number.
 abbrev pub variable_text : VarName → List ℕ

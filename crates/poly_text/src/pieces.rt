@@ -1,6 +1,6 @@
 ghost use Rattle.std.specs.Prelude.{◌≡◌, ◌<◌, ◌≤◌, ◌^◌, ℕ, List, Option, Some, None, MatchOption, IfSome, is_some};
 ghost use Rattle.poly_text.specs.Text.{letter};
-ghost use Rattle.poly_text.specs.Bytes.{is_digit};
+ghost use Rattle.desk_io.specs.Characters.{is_digit};
 ghost use Rattle.poly_text.specs.Reading.{number_from, begins_number, number_at, behind, exponent_at, joint_at, NoName, OnlyName};
 
 use poly_model::{MOST_DEGREE, VarName};

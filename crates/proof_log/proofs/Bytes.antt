@@ -8,7 +8,8 @@ use Rattle.poly_model.specs.Names.{are_variables}
 use Rattle.poly_model.specs.Polynomial.{Polynomial, is_over}
 use Rattle.poly_model.specs.Standard.{is_standard}
 use Rattle.poly_model.specs.declared.vars.VarName.{VarName}
-use Rattle.poly_text.specs.Bytes.{is_digit, is_poly_byte}
+use Rattle.poly_text.specs.Bytes.{is_poly_byte}
+use Rattle.desk_io.specs.Characters.{is_digit}
 use Rattle.poly_text.specs.Text.{poly_text}
 use Rattle.poly_text.proofs.Plain.{decimal-digits, poly-plain}
 pub use Rattle.proof_log.specs.Cuts.{Avoids, EndsAt}

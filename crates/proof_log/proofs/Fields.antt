@@ -12,7 +12,7 @@ use Rattle.poly_model.specs.Content.{is_negative, signed_by}
 use Rattle.poly_model.specs.declared.limits.TheConstants.{MOST_SIZE}
 use Rattle.poly_model.specs.declared.limits.Reason.{Reason}
 use Rattle.poly_model.specs.declared.limits.Reason.TheVariants as reason
-use Rattle.poly_text.specs.Bytes.{is_digit}
+use Rattle.desk_io.specs.Characters.{is_digit}
 use Rattle.poly_text.proofs.Numbers.{digits_written}
 use Rattle.poly_text.proofs.Plain.{decimal-digits}
 use Rattle.proof_log.specs.declared.line.LogLine.{LogLine}

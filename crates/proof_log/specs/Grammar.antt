@@ -1,5 +1,6 @@
 -- The grammar of logs: which lines a log begins with, and which bytes the grammar refuses.
 use Rattle.std.specs.Prelude.{◌≡◌, ◌≢◌, ◌≤◌, ℕ, List, [], ◌∷◌, ◌++◌, length}
+use Rattle.desk_io.specs.Characters.{line_feed}
 use Rattle.poly_model.specs.declared.limits.TheConstants.{MOST_HYPOTHESES, MOST_CONCLUSIONS}
 use Rattle.poly_model.specs.declared.vars.VarName.{VarName}
 use Rattle.proof_steps.specs.declared.problem.Problem.{Problem}
@@ -47,7 +48,7 @@ names_behind names (l ∷ ls) = names_behind (names_after names l) ls
 
 -- No byte is LF.
 abbrev pub IsUnended : List ℕ → Type 0
-IsUnended bytes = Avoids 10 bytes
+IsUnended bytes = Avoids line_feed bytes
 
 -- The bytes are these lines, with which a log begins, and then the rest.
 pub record Begins (front : List LogLine) (rest bytes : List ℕ) : Type 0 where
@@ -59,7 +60,7 @@ pub record Begins (front : List LogLine) (rest bytes : List ℕ) : Type 0 where
 pub record Refuses (front : List LogLine) (bytes : List ℕ) : Type 0 where
   pub refused : List ℕ
   pub more : List ℕ
-  pub begins : Begins front (refused ++ 10 ∷ more) bytes
+  pub begins : Begins front (refused ++ line_feed ∷ more) bytes
   pub one_line : IsUnended refused
   pub no_line : (l : LogLine) → IsLine (names_behind [] front) l → IsFront (front ++ l ∷ []) → refused ≢ line_text (names_behind [] front) l
 

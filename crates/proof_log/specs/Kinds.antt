@@ -1,5 +1,6 @@
 -- Which fields and which rest stand behind each word.
 use Rattle.std.specs.Prelude.{◌≡◌, ◌≤◌, ℕ, Bool, true, false, List, [], ◌∷◌, length, codes}
+use Rattle.desk_io.specs.Characters.{space}
 use Rattle.poly_model.specs.Names.{number}
 use Rattle.poly_model.specs.declared.vars.VarName.{VarName}
 use Rattle.proof_log.specs.declared.field.FieldKind.{FieldKind}
@@ -182,7 +183,7 @@ rest_kind_behind verdict_word.Left = rest_kind.Nothing
 
 abbrev pub rest_text : List VarName → VerdictRest → List ℕ
 rest_text names rest.Nothing = []
-rest_text names (rest.Poly p) = 32 ∷ poly_text names p
+rest_text names (rest.Poly p) = space ∷ poly_text names p
 rest_text names (rest.Polys ps) = polys_text names ps
 
 abbrev pub FitsRest : List VarName → VerdictRest → Type 0

@@ -1,6 +1,7 @@
 -- The text of the lines of a log: a row for each kind of line.
 use Rattle.std.specs.Prelude.{ℕ, ◌≤◌, List, [], ◌∷◌, ◌++◌, map, length, Bool, true, false, IsTrue, codes, decimal, unsigned_abs}
 use Rattle.std.specs.List.{flat_map}
+use Rattle.desk_io.specs.Characters.{full_stop, line_feed, minus, plus, space}
 use Rattle.poly_model.specs.Polynomial.{Polynomial, is_over}
 use Rattle.poly_model.specs.Standard.{is_standard}
 use Rattle.poly_model.specs.Content.{is_negative}
@@ -27,8 +28,8 @@ pub use Rattle.proof_log.specs.declared.tail.Tail.TheVariants.{Nothing, Poly, Na
 -- ---- small fields: without a blank, and never empty
 
 abbrev pub letter_text : Bool → ℕ
-letter_text true = 43
-letter_text false = 45
+letter_text true = plus
+letter_text false = minus
 
 abbrev pub reason_text : Reason → List ℕ
 reason_text reason.Degree = codes "degree"
@@ -47,7 +48,7 @@ field_text (Version v) = decimal v
 field_text (Proofs n) = decimal n
 field_text (Conclusion k) = decimal k
 field_text (Multiplier m) = minus_where (is_negative m) ++ decimal (unsigned_abs m)
-field_text (Letters path) = 46 ∷ map letter_text path
+field_text (Letters path) = full_stop ∷ map letter_text path
 field_text (Why r) = reason_text r
 
 abbrev pub FitsField : Field → Type 0
@@ -60,7 +61,7 @@ FitsField (Letters path) = length path ≤ MOST_LETTERS
 FitsField (Why r) = Unit {0}
 
 abbrev pub fields_text : List Field → List ℕ
-fields_text = flat_map (λ f. 32 ∷ field_text f)
+fields_text = flat_map (λ f. space ∷ field_text f)
 
 abbrev pub FitFields : List Field → Type 0
 FitFields [] = Unit {0}
@@ -93,24 +94,24 @@ more_text names = flat_map (λ p. codes "; " ++ poly_text names p)
 
 abbrev pub polys_text : List VarName → List Polynomial → List ℕ
 polys_text names [] = []
-polys_text names (p ∷ ps) = 32 ∷ (poly_text names p ++ more_text names ps)
+polys_text names (p ∷ ps) = space ∷ (poly_text names p ++ more_text names ps)
 
 abbrev pub verdict_text : List VarName → Verdict → List ℕ
 verdict_text names verdict.Proved = codes "proved"
 verdict_text names (verdict.Under cs) = codes "under" ++ polys_text names cs
-verdict_text names (verdict.NotProved path k r) = codes "not-proved" ++ (fields_text (Letters path ∷ Conclusion k ∷ []) ++ 32 ∷ poly_text names r)
+verdict_text names (verdict.NotProved path k r) = codes "not-proved" ++ (fields_text (Letters path ∷ Conclusion k ∷ []) ++ space ∷ poly_text names r)
 verdict_text names (verdict.Degenerate path) = codes "degenerate" ++ fields_text (Letters path ∷ [])
 verdict_text names (verdict.Left path why) = codes "left" ++ fields_text (Letters path ∷ Why why ∷ [])
 
 abbrev pub names_text : List VarName → List ℕ
-names_text ns = flat_map (λ n. 32 ∷ variable_text n) ns
+names_text ns = flat_map (λ n. space ∷ variable_text n) ns
 
 abbrev pub tail_text : List VarName → Tail → List ℕ
 tail_text names Nothing = []
-tail_text names (Poly p) = 32 ∷ poly_text names p
+tail_text names (Poly p) = space ∷ poly_text names p
 tail_text names (Names ns) = names_text ns
-tail_text names (Tried what) = 32 ∷ (attempt_word what ++ fields_text (attempt_fields what))
-tail_text names (Told v) = 32 ∷ verdict_text names v
+tail_text names (Tried what) = space ∷ (attempt_word what ++ fields_text (attempt_fields what))
+tail_text names (Told v) = space ∷ verdict_text names v
 
 abbrev pub FitsVerdict : List VarName → Verdict → Type 0
 FitsVerdict names verdict.Proved = Unit {0}
@@ -222,7 +223,7 @@ names_after names line.End = names
 -- Each line ends with LF.
 unfoldable pub text_of : List VarName → List LogLine → List ℕ
 text_of names [] = []
-text_of names (l ∷ ls) = line_text names l ++ 10 ∷ text_of (names_after names l) ls
+text_of names (l ∷ ls) = line_text names l ++ line_feed ∷ text_of (names_after names l) ls
 
 unfoldable pub AreLines : List VarName → List LogLine → Type 0
 AreLines names [] = Unit {0}

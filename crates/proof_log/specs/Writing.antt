@@ -1,6 +1,7 @@
 -- The text of a log as it is written, part by part, over the variables of each problem.
 use Rattle.std.specs.Prelude.{ℕ, suc, List, [], ◌∷◌, ◌++◌, codes, decimal, length}
 use Rattle.std.specs.List.{flat_map}
+use Rattle.desk_io.specs.Characters.{line_feed}
 use Rattle.poly_model.specs.Polynomial.{Polynomial}
 use Rattle.poly_model.specs.declared.vars.VarName.{VarName}
 use Rattle.proof_steps.specs.declared.piece.ChainStep.{ChainStep}
@@ -32,7 +33,7 @@ lent (rest.Told v) = Told v.now
 
 -- A row with the end of its line.
 abbrev pub row_text : List VarName → Row → List ℕ
-row_text names r = word_text r.word ++ (fields_text r.fields ++ tail_text names r.tail) ++ 10 ∷ []
+row_text names r = word_text r.word ++ (fields_text r.fields ++ tail_text names r.tail) ++ line_feed ∷ []
 
 abbrev pub whole_line : List VarName → LogLine → List ℕ
 whole_line names l = row_text names (row_of l)

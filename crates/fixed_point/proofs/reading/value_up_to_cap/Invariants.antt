@@ -1,6 +1,7 @@
 use Rattle.std.proofs.Common.{◌≡◌, ◌≤◌, length, min, IsTrue}
 use Rattle.std.specs.List.{list_all}
-use Rattle.fixed_point.specs.Decimal.{is_digit, value_from}
+use Rattle.fixed_point.specs.Decimal.{value_from}
+use Rattle.desk_io.specs.Characters.{is_digit}
 use Rattle.fixed_point.specs.declared.reading.TheConstants.{CAP}
 use Rattle.fixed_point.proofs.reading.value_up_to_cap.Given as goal
 
