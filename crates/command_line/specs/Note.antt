@@ -3,6 +3,7 @@ use Rattle.std.specs.Prelude.{ℕ, ◌++◌, List, [], take, drop, min, cond, na
 use Rattle.gcl_reader.specs.declared.refusal.Refusal.{Refusal}
 use Rattle.gcl_reader.specs.declared.refusal.Kind.{Kind}
 use Rattle.gcl_reader.specs.declared.refusal.Kind.TheVariants as kind
+use Rattle.command_line.specs.declared.note.TheConstants.{MOST_SHOWN}
 
 -- The name of a kind of refusal.
 abbrev pub kind_text : Kind → List ℕ
@@ -27,7 +28,7 @@ kind_text kind.OutOfRange = codes "OutOfRange"
 
 -- A blank and the first 40 bytes of the token at fault; nothing where there is no token.
 abbrev pub token_text : List ℕ → Refusal → List ℕ
-token_text bytes refusal = cond (nat_lt 0 refusal.len) (codes " " ++ take (min 40 refusal.len) (drop refusal.at bytes)) []
+token_text bytes refusal = cond (nat_lt 0 refusal.len) (codes " " ++ take (min MOST_SHOWN refusal.len) (drop refusal.at bytes)) []
 
 -- `refused: line L: KIND TOKEN`
 abbrev pub refusal_line : List ℕ → Refusal → List ℕ

@@ -4,6 +4,9 @@ ghost use Rattle.poly_model.specs.Reasons.{reason_of};
 /// The most variables of a problem, and so the number of exponents of each term.
 pub const MOST_VARIABLES: usize = 48;
 
+/// The greatest number in the name of a variable.
+pub const MOST_NUMBER: u8 = 255;
+
 /// The highest degree in one variable.
 pub const MOST_DEGREE: u8 = 63;
 

@@ -4,7 +4,7 @@ use Rattle.std.specs.Prelude.{decimal}
 use Rattle.std.proofs.lemmas.Bool.Decides.{nat_tests}
 use Rattle.poly_model.specs.declared.vars.VarName.{VarName}
 use Rattle.poly_model.specs.declared.vars.VarName.TheVariants.{U, X}
-use Rattle.poly_model.specs.declared.limits.TheConstants.{MOST_DEGREE}
+use Rattle.poly_model.specs.declared.limits.TheConstants.{MOST_DEGREE, MOST_NUMBER}
 use Rattle.poly_model.specs.Names.{number}
 use Rattle.poly_text.specs.Text.{letter, exponent_text, factor_text, joint_text, factors_text}
 use Rattle.desk_io.specs.Characters.{is_digit}
@@ -52,7 +52,7 @@ Misses name (other ∷ names) = (name ≢ other) × Misses name names
 -- each name once, with a number that the reader takes
 abbrev pub Named : List VarName → Type 0
 Named [] = Unit {0}
-Named (name ∷ names) = (number name ≤ 255) × Misses name names × Named names
+Named (name ∷ names) = (number name ≤ MOST_NUMBER) × Misses name names × Named names
 
 -- the exponents of the variables within the limit, and so many zeros behind them
 abbrev pub FitExponents : ℕ → List VarName → List ℕ → Type 0
@@ -71,19 +71,19 @@ joint-complete : (joined : Bool) (text : List ℕ) → joint_at joined (joint_te
 joint-complete true text = refl
 joint-complete false text = refl
 
-name-complete : (name : VarName) (text : List ℕ) → number name ≤ 255 → begins_digit text ≡ false → name_at name (letter name ∷ decimal (number name) ++ text) ≡ Some text
+name-complete : (name : VarName) (text : List ℕ) → number name ≤ MOST_NUMBER → begins_digit text ≡ false → name_at name (letter name ∷ decimal (number name) ++ text) ≡ Some text
 name-complete (U n) text within stop =
-    ap (numbered n) (number_at-complete 255 n text within (omega arith) stop) ∙ ap (λ t. cond t (Some text) None) (eq_self n)
+    ap (numbered n) (number_at-complete MOST_NUMBER n text within (omega arith) stop) ∙ ap (λ t. cond t (Some text) None) (eq_self n)
 name-complete (X n) text within stop =
-    ap (numbered n) (number_at-complete 255 n text within (omega arith) stop) ∙ ap (λ t. cond t (Some text) None) (eq_self n)
+    ap (numbered n) (number_at-complete MOST_NUMBER n text within (omega arith) stop) ∙ ap (λ t. cond t (Some text) None) (eq_self n)
 
-name-other : (name other : VarName) (text : List ℕ) → name ≢ other → number other ≤ 255 → begins_digit text ≡ false → name_at name (letter other ∷ decimal (number other) ++ text) ≡ None
+name-other : (name other : VarName) (text : List ℕ) → name ≢ other → number other ≤ MOST_NUMBER → begins_digit text ≡ false → name_at name (letter other ∷ decimal (number other) ++ text) ≡ None
 name-other (U n) (X m) text d within stop = refl
 name-other (X n) (U m) text d within stop = refl
 name-other (U n) (U m) text d within stop =
-    ap (numbered n) (number_at-complete 255 m text within (omega arith) stop) ∙ ap (λ t. cond t (Some text) None) (eq_other m n (λ e. d (ap U (sym e))))
+    ap (numbered n) (number_at-complete MOST_NUMBER m text within (omega arith) stop) ∙ ap (λ t. cond t (Some text) None) (eq_other m n (λ e. d (ap U (sym e))))
 name-other (X n) (X m) text d within stop =
-    ap (numbered n) (number_at-complete 255 m text within (omega arith) stop) ∙ ap (λ t. cond t (Some text) None) (eq_other m n (λ e. d (ap X (sym e))))
+    ap (numbered n) (number_at-complete MOST_NUMBER m text within (omega arith) stop) ∙ ap (λ t. cond t (Some text) None) (eq_other m n (λ e. d (ap X (sym e))))
 
 exponent-stops : (e : ℕ) (text : List ℕ) → follows text ≡ true → begins_digit (exponent_text e ++ text) ≡ false
 unfolding begins_digit
@@ -103,7 +103,7 @@ exponent-complete e text some within f =
 parts : (name : VarName) (e : ℕ) (text : List ℕ) → factor_text name e ++ text ≡ letter name ∷ decimal (number name) ++ (exponent_text e ++ text)
 parts name e text = ap (λ l. letter name ∷ l) (append_assoc (decimal (number name)) (exponent_text e) text)
 
-factor-complete : (name : VarName) (joined : Bool) (e : ℕ) (text : List ℕ) → number name ≤ 255 → 0 < e → e ≤ MOST_DEGREE → follows text ≡ true
+factor-complete : (name : VarName) (joined : Bool) (e : ℕ) (text : List ℕ) → number name ≤ MOST_NUMBER → 0 < e → e ≤ MOST_DEGREE → follows text ≡ true
     → factor_at name joined (joint_text joined ++ (factor_text name e ++ text)) ≡ Some (e, text)
 factor-complete name joined e text number_within some within f =
     ap (λ r. exponent_behind (name_behind name r)) (joint-complete joined (factor_text name e ++ text))
@@ -111,7 +111,7 @@ factor-complete name joined e text number_within some within f =
     ∙ ap exponent_behind (name-complete name (exponent_text e ++ text) number_within (exponent-stops e text f))
     ∙ exponent-complete e text some within f
 
-factor-other : (name other : VarName) (joined : Bool) (e : ℕ) (text : List ℕ) → name ≢ other → number other ≤ 255 → follows text ≡ true
+factor-other : (name other : VarName) (joined : Bool) (e : ℕ) (text : List ℕ) → name ≢ other → number other ≤ MOST_NUMBER → follows text ≡ true
     → factor_at name joined (joint_text joined ++ (factor_text other e ++ text)) ≡ None
 factor-other name other joined e text d number_within f =
     ap (λ r. exponent_behind (name_behind name r)) (joint-complete joined (factor_text other e ++ text))
@@ -192,7 +192,7 @@ numbered-from n (Some read) rest e =
 number-from : (name : VarName) (r : Option (List ℕ)) (rest : List ℕ) → number_of name r ≡ Some rest → (text : List ℕ) × (r ≡ Some text) × (text ≡ decimal (number name) ++ rest)
 number-from name None rest e = cc
 number-from name (Some text) rest e =
-    (text, refl, (number_at-sound 255 text (number name) rest (omega arith) (numbered-from (number name) (number_at 255 text) rest e)).0)
+    (text, refl, (number_at-sound MOST_NUMBER text (number name) rest (omega arith) (numbered-from (number name) (number_at MOST_NUMBER text) rest e)).0)
 
 name-sound : (name : VarName) (text rest : List ℕ) → name_at name text ≡ Some rest → text ≡ letter name ∷ decimal (number name) ++ rest
 name-sound name text rest e =

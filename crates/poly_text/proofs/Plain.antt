@@ -11,7 +11,7 @@ use Rattle.poly_model.specs.Polynomial.{Polynomial, is_over}
 use Rattle.poly_model.specs.Standard.{is_standard}
 use Rattle.poly_model.specs.declared.vars.VarName.{VarName}
 use Rattle.poly_model.specs.declared.vars.VarName.TheVariants.{U, X}
-use Rattle.poly_model.specs.declared.limits.TheConstants.{MOST_DEGREE, MOST_SIZE}
+use Rattle.poly_model.specs.declared.limits.TheConstants.{MOST_DEGREE, MOST_SIZE, MOST_NUMBER}
 use Rattle.poly_text.specs.Bytes.{is_poly_byte}
 use Rattle.desk_io.specs.Characters.{is_digit}
 use Rattle.poly_text.specs.Text.{exponent_text, factor_text, joint_text, factors_text, is_left_out, term_text, sign_text, entry_text, terms_text, poly_text}
@@ -46,7 +46,7 @@ exponent-plain e few = by_test (e == 1)
     by_test true = refl
     by_test false = decimal-plain e (omega (arith, few))
 
-factor-plain : (name : VarName) (e : ℕ) → number name ≤ 255 → e ≤ MOST_DEGREE → IsPlain (factor_text name e)
+factor-plain : (name : VarName) (e : ℕ) → number name ≤ MOST_NUMBER → e ≤ MOST_DEGREE → IsPlain (factor_text name e)
 factor-plain (U n) e small few = joined-plain (decimal n) (exponent_text e) (decimal-plain n (omega (arith, small))) (exponent-plain e few)
 factor-plain (X n) e small few = joined-plain (decimal n) (exponent_text e) (decimal-plain n (omega (arith, small))) (exponent-plain e few)
 

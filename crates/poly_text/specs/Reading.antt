@@ -4,7 +4,7 @@ use Rattle.desk_io.specs.Characters.{caret, digit_zero, is_digit, minus, plus, s
 use Rattle.poly_model.specs.Polynomial.{Entry}
 use Rattle.poly_model.specs.Content.{signed_by}
 use Rattle.poly_model.specs.declared.vars.VarName.{VarName}
-use Rattle.poly_model.specs.declared.limits.TheConstants.{MOST_VARIABLES, MOST_DEGREE, MOST_SIZE}
+use Rattle.poly_model.specs.declared.limits.TheConstants.{MOST_VARIABLES, MOST_DEGREE, MOST_SIZE, MOST_NUMBER}
 use Rattle.poly_model.specs.Names.{number}
 use Rattle.poly_text.specs.Text.{letter, is_left_out}
 
@@ -36,7 +36,7 @@ numbered n (Some read) = if read.0 == n then Some read.1 else None
 -- What stands behind the number of a variable, where its letter was read.
 abbrev pub number_of : VarName → Option (List ℕ) → Option (List ℕ)
 number_of name None = None
-number_of name (Some text) = numbered (number name) (number_at 255 text)
+number_of name (Some text) = numbered (number name) (number_at MOST_NUMBER text)
 
 -- The variable of this name.
 abbrev pub name_at : VarName → List ℕ → Option (List ℕ)

@@ -3,7 +3,7 @@ ghost use Rattle.poly_text.specs.Text.{letter};
 ghost use Rattle.desk_io.specs.Characters.{is_digit};
 ghost use Rattle.poly_text.specs.Reading.{number_from, begins_number, number_at, behind, exponent_at, joint_at, NoName, OnlyName};
 
-use poly_model::{MOST_DEGREE, VarName};
+use poly_model::{MOST_DEGREE, MOST_NUMBER, VarName};
 
 fn is_digit(b: u8) -> bool
     ensures { result ≡ is_digit b }
@@ -115,7 +115,7 @@ fn read_name(text: &[u8]) -> Option<(VarName, &[u8])>
     if *letter != b'u' && *letter != b'x' {
         return None;
     }
-    let (n, rest) = read_short(255, digits)?;
+    let (n, rest) = read_short(MOST_NUMBER, digits)?;
     let name = if *letter == b'u' {
         VarName::U(n)
     } else {

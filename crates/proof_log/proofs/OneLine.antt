@@ -8,6 +8,7 @@ use Rattle.poly_model.specs.declared.vars.VarName.{VarName}
 use Rattle.poly_model.specs.declared.vars.VarName.TheVariants.{U, X}
 use Rattle.poly_model.specs.declared.limits.Reason.{Reason}
 use Rattle.poly_model.specs.declared.limits.Reason.TheVariants as reason
+use Rattle.poly_model.specs.declared.limits.TheConstants.{MOST_NUMBER}
 use Rattle.poly_text.specs.Text.{poly_text, variable_text}
 use Rattle.poly_text.proofs.Factors.{Named}
 use Rattle.poly_text.proofs.Unique.{all_fit, few, named, same_text}
@@ -85,13 +86,13 @@ same-polys names (p ∷ ps) (q ∷ qs) v f g e =
     let c = same-first names p q ps qs v f.0 g.0 (ap (drop 1) e) in
     λ i. c.0 i ∷ same-more names ps qs v f.1 g.1 c.1 i
 
-pub same-name : (m n : VarName) → number m ≤ 255 → number n ≤ 255 → variable_text m ≡ variable_text n → m ≡ n
+pub same-name : (m n : VarName) → number m ≤ MOST_NUMBER → number n ≤ MOST_NUMBER → variable_text m ≡ variable_text n → m ≡ n
 same-name (U i) (U j) p q e = ap U (sym (value-again i (omega (arith, p))) ∙ ap (λ l. value (drop 1 l)) e ∙ value-again j (omega (arith, q)))
 same-name (X i) (X j) p q e = ap X (sym (value-again i (omega (arith, p))) ∙ ap (λ l. value (drop 1 l)) e ∙ value-again j (omega (arith, q)))
 same-name (U i) (X j) p q e = absurd (apart _ _ e refl)
 same-name (X i) (U j) p q e = absurd (apart _ _ e refl)
 
-pub name-high : (n : VarName) → number n ≤ 255 → high (variable_text n) ≡ true
+pub name-high : (n : VarName) → number n ≤ MOST_NUMBER → high (variable_text n) ≡ true
 name-high (U i) p = decimal-high i (omega (arith, p))
 name-high (X i) p = decimal-high i (omega (arith, p))
 

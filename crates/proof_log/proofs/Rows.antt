@@ -4,6 +4,7 @@ use Rattle.std.specs.Prelude.{codes}
 use Rattle.poly_model.specs.Names.{are_variables, number}
 use Rattle.poly_model.specs.Polynomial.{Polynomial}
 use Rattle.poly_model.specs.declared.vars.VarName.{VarName}
+use Rattle.poly_model.specs.declared.limits.TheConstants.{MOST_NUMBER}
 use Rattle.poly_text.specs.Text.{poly_text, variable_text}
 use Rattle.poly_text.proofs.Factors.{Named}
 use Rattle.poly_text.proofs.Unique.{named}
@@ -104,7 +105,7 @@ names = record {
   mark = λ s. 32 ∷ [];
   next = λ s. s;
   text = variable_text;
-  Fits = λ s n. number n ≤ 255;
+  Fits = λ s n. number n ≤ MOST_NUMBER;
   Done = λ s. Unit {0};
   End = λ end. end ≡ [];
   plain = λ s n h. high-blank (variable_text n) (name-high n h);
@@ -137,11 +138,11 @@ module _ (text rest : List ℕ) (done : List VarName) (g : Going names tt tt tex
   pub no_blank_more : rest ≢ [] → ((behind : List ℕ) → rest ≢ 32 ∷ behind) → (ns : List VarName) → AreNames ns → text ≢ names_text ns
   no_blank_more more none = names_refused (no_mark names tt tt text rest done g (λ d x. more x) none)
 
-  pub no_name : (behind word next : List ℕ) → rest ≢ [] → rest ≡ 32 ∷ behind → behind ≡ word ++ next → Avoids 32 word → EndsAt 32 next → ((n : VarName) → number n ≤ 255 → word ≢ variable_text n)
+  pub no_name : (behind word next : List ℕ) → rest ≢ [] → rest ≡ 32 ∷ behind → behind ≡ word ++ next → Avoids 32 word → EndsAt 32 next → ((n : VarName) → number n ≤ MOST_NUMBER → word ≢ variable_text n)
       → (ns : List VarName) → AreNames ns → text ≢ names_text ns
   no_name behind word next more r w v u none = names_refused (no_item names tt tt text rest behind word next done g (λ d x. more x) r w v u none)
 
-  pub one_name : (behind word next : List ℕ) (n : VarName) (new : List VarName) → rest ≢ [] → rest ≡ 32 ∷ behind → behind ≡ word ++ next → Avoids 32 word → EndsAt 32 next → number n ≤ 255 → word ≡ variable_text n → new ≡ done ++ n ∷ []
+  pub one_name : (behind word next : List ℕ) (n : VarName) (new : List VarName) → rest ≢ [] → rest ≡ 32 ∷ behind → behind ≡ word ++ next → Avoids 32 word → EndsAt 32 next → number n ≤ MOST_NUMBER → word ≡ variable_text n → new ≡ done ++ n ∷ []
       → Going names tt tt text next new
   one_name behind word next n new more r w v u fits t e = subst (Going names tt tt text next) (sym e) (one_more names tt tt text rest behind word next done n g (λ d x. more x) r w v u fits t)
 

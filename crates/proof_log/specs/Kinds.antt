@@ -3,6 +3,7 @@ use Rattle.std.specs.Prelude.{◌≡◌, ◌≤◌, ℕ, Bool, true, false, List
 use Rattle.desk_io.specs.Characters.{space}
 use Rattle.poly_model.specs.Names.{number}
 use Rattle.poly_model.specs.declared.vars.VarName.{VarName}
+use Rattle.poly_model.specs.declared.limits.TheConstants.{MOST_NUMBER}
 use Rattle.proof_log.specs.declared.field.FieldKind.{FieldKind}
 use Rattle.proof_log.specs.declared.field.FieldKind.TheVariants as kind
 use Rattle.proof_log.specs.declared.tail.TailKind.{TailKind}
@@ -108,7 +109,7 @@ tail_kind word.End = tail.Nothing
 -- Variables whose numbers are bytes.
 abbrev pub AreNames : List VarName → Type 0
 AreNames [] = Unit {0}
-AreNames (n ∷ ns) = (number n ≤ 255) × AreNames ns
+AreNames (n ∷ ns) = (number n ≤ MOST_NUMBER) × AreNames ns
 
 -- What stands before a polynomial of a list: before the first, and before each later one.
 abbrev pub poly_mark : Bool → List ℕ

@@ -2,6 +2,7 @@ ghost use Rattle.std.specs.Prelude.{◌≡◌, ◌≢◌, ◌≤◌, ◌∷◌, 
 ghost use Rattle.std.specs.List.{flat_map};
 ghost use Rattle.poly_model.specs.Names.{are_variables, number};
 ghost use Rattle.poly_model.specs.Polynomial.{Polynomial};
+ghost use Rattle.poly_model.specs.declared.limits.TheConstants.{MOST_NUMBER};
 ghost use Rattle.poly_model.specs.declared.vars.VarName.{VarName};
 ghost use Rattle.poly_text.specs.Text.{poly_text, variable_text};
 ghost use Rattle.proof_log.specs.Kinds.{AreNames, poly_mark, tail_kind_of};
@@ -14,7 +15,7 @@ use crate::cut::cut;
 use crate::fault::LineFault;
 use crate::field::{behind_blank, number_of};
 use crate::told::verdict_of;
-use poly_model::{MOST_VARIABLES, OwnedPoly, VarName, Vars};
+use poly_model::{MOST_NUMBER, MOST_VARIABLES, OwnedPoly, VarName, Vars};
 use poly_text::{PolyFault, read_poly};
 use proof_steps::Attempt;
 use std::alloc::Global;
@@ -42,16 +43,17 @@ pub enum TailKind {
 
 /// The variable that a text spells.
 fn name_of(text: &[u8]) -> Option<VarName>
-    ensures reads { IfSome result (λ name. (number name ≤ 255) × (text.now ≡ variable_text name)) }
-    ensures refuses { IfNone result ((name : VarName) → number name ≤ 255
+    ensures reads { IfSome result (λ name. (number name ≤ MOST_NUMBER)
+        × (text.now ≡ variable_text name)) }
+    ensures refuses { IfNone result ((name : VarName) → number name ≤ MOST_NUMBER
         → text.now ≢ variable_text name) }
 {
     match text {
-        [b'u', digits @ ..] => match number_of(0, 255, digits) {
+        [b'u', digits @ ..] => match number_of(0, MOST_NUMBER as u128, digits) {
             Some(n) => Some(VarName::U(n as u8)),
             None => None,
         },
-        [b'x', digits @ ..] => match number_of(0, 255, digits) {
+        [b'x', digits @ ..] => match number_of(0, MOST_NUMBER as u128, digits) {
             Some(n) => Some(VarName::X(n as u8)),
             None => None,
         },
