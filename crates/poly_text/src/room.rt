@@ -2,6 +2,7 @@
 //
 // Each function puts its text behind the first `n` bytes, and answers how many stand there then.
 ghost use Rattle.std.specs.Prelude.{◌≡◌, ◌<◌, ◌≤◌, ◌+◌, ◌++◌, ◌∷◌, [], length, take, decimal, unsigned_abs};
+ghost use Rattle.desk_io.specs.Characters.{space};
 ghost use Rattle.poly_model.specs.Content.{is_negative};
 ghost use Rattle.poly_model.specs.Standard.{entry_of};
 ghost use Rattle.poly_text.specs.Text.{joint_text, exponent_text, factor_text, factors_text, term_text, sign_text, entry_text};
@@ -160,7 +161,7 @@ fn put_term(term: &Term, vars: &Vars, n: usize, room: &mut [u8; ROOM]) -> usize
 /// A sign between terms.
 fn put_parting(sign: u8, room: &mut [u8; ROOM]) -> usize
     ensures within { result ≤ MOST_SIGN }
-    ensures text { take result room.new ≡ 32 ∷ sign ∷ 32 ∷ [] }
+    ensures text { take result room.new ≡ space ∷ sign ∷ space ∷ [] }
 {
     let before = put_byte(b' ', 0, room);
     let behind = put_byte(sign, before, room);

@@ -1,5 +1,6 @@
 ghost use Rattle.std.specs.Prelude.{◌≡◌, ◌++◌, length, not, ◌==◌};
 ghost use Rattle.std.specs.List.{take_while};
+ghost use Rattle.desk_io.specs.Characters.{line_feed};
 ghost use Rattle.proof_log.specs.Cuts.{Avoids, EndsAt};
 
 use memchr::memchr;
@@ -23,8 +24,8 @@ pub fn cut(byte: u8, text: &[u8]) -> (&[u8], &[u8])
 /// The text up to the first LF, and the text from there on.
 pub fn cut_line(text: &[u8]) -> (&[u8], &[u8])
     ensures parts { text.now ≡ result.0.now ++ result.1.now }
-    ensures front { Avoids 10 result.0.now }
-    ensures behind { EndsAt 10 result.1.now }
+    ensures front { Avoids line_feed result.0.now }
+    ensures behind { EndsAt line_feed result.1.now }
 {
     match memchr(b'\n', text) {
         Some(at) => text.split_at(at),

@@ -1,4 +1,5 @@
 ghost use Rattle.std.specs.Prelude.{◌≡◌, ◌≢◌, ◌<◌, ◌≤◌, ◌^◌, ◌++◌, ◌∷◌, List, ℕ, ℤ, pos, Bool, false, length, map, decimal, IfSome, IfNone, IfOk, IsErrOf, MatchOption};
+ghost use Rattle.desk_io.specs.Characters.{full_stop, space};
 ghost use Rattle.proof_log.specs.declared.fault.LineFault.{LineFault};
 ghost use Rattle.proof_log.specs.Cuts.{EndsAt};
 ghost use Rattle.poly_model.specs.Content.{signed_by};
@@ -69,7 +70,7 @@ fn signed(negative: bool, size: u128) -> i128
 /// The text behind a `-` that stands first, and whether one does.
 fn behind_minus(text: &[u8]) -> (bool, &[u8])
     ensures minus { text.now ≡ minus_where result.0 ++ result.1.now }
-    ensures plus { result.0 ≡ false → (rest : List ℕ) → text.now ≢ 45 ∷ rest }
+    ensures plus { result.0 ≡ false → (rest : List ℕ) → text.now ≢ codes "-" ++ rest }
 {
     match text {
         [b'-', rest @ ..] => (true, rest),
@@ -103,9 +104,9 @@ fn letter_of(byte: u8) -> Option<bool>
 
 fn letters_of(text: &[u8]) -> Option<Path>
     ensures reads { IfSome result (λ path. (length path ≤ MOST_LETTERS)
-        × (text.now ≡ 46 ∷ map letter_text path)) }
+        × (text.now ≡ full_stop ∷ map letter_text path)) }
     ensures refuses { IfNone result ((path : List Bool) → length path ≤ MOST_LETTERS
-        → text.now ≢ 46 ∷ map letter_text path) }
+        → text.now ≢ full_stop ∷ map letter_text path) }
 {
     let [b'.', letters @ ..] = text else {
         return None;
@@ -183,8 +184,8 @@ fn field_of(kind: FieldKind, text: &[u8]) -> Option<Field>
 
 /// The text behind a blank that stands first.
 pub fn behind_blank(text: &[u8]) -> Option<&[u8]>
-    ensures { MatchOption result ((rest : List ℕ) → text.now ≢ 32 ∷ rest)
-        (λ rest. text.now ≡ 32 ∷ rest.now) }
+    ensures { MatchOption result ((rest : List ℕ) → text.now ≢ space ∷ rest)
+        (λ rest. text.now ≡ space ∷ rest.now) }
 {
     match text {
         [b' ', rest @ ..] => Some(rest),
@@ -200,11 +201,11 @@ pub fn fields_at<'a>(
 ) -> Result<(Vec<Field>, &'a [u8]), LineFault>
     ensures reads { IfOk result (λ x. AreAt kinds.now x.0.items
         × (text.now ≡ fields_text x.0.items ++ x.1.now)) }
-    ensures only { (fs : List Field) (rest : List ℕ) → AreAt kinds.now fs → EndsAt 32 rest
+    ensures only { (fs : List Field) (rest : List ℕ) → AreAt kinds.now fs → EndsAt space rest
         → text.now ≡ fields_text fs ++ rest
         → IfOk result (λ x. (x.0.items ≡ fs) × (x.1.now ≡ rest)) }
     ensures refuses { IsErrOf result LineFault.Malformed → (fs : List Field) (rest : List ℕ)
-        → AreAt kinds.now fs → EndsAt 32 rest → text.now ≢ fields_text fs ++ rest }
+        → AreAt kinds.now fs → EndsAt space rest → text.now ≢ fields_text fs ++ rest }
 {
     let mut fields = Vec::new(alloc);
     let mut rest = text;

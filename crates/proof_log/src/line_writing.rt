@@ -1,6 +1,7 @@
 // Writing a line: its word, its small fields, and the rest.
 ghost use Rattle.std.specs.List.{flat_map};
 ghost use Rattle.std.specs.Prelude.{◌≡◌, ◌++◌, ◌∷◌, All, map, length, codes, decimal, unsigned_abs};
+ghost use Rattle.desk_io.specs.Characters.{full_stop, space};
 ghost use Rattle.desk_io.specs.Bytes.{Writes};
 ghost use Rattle.desk_io.specs.Causes.{HasCause};
 ghost use Rattle.poly_model.specs.Content.{is_negative};
@@ -55,7 +56,7 @@ fn write_multiplier<S: Sink>(m: i128, pen: &mut Pen, sink: &mut S) -> Result<(),
 
 fn write_path<S: Sink>(path: &Path, pen: &mut Pen, sink: &mut S) -> Result<(), Failed>
     ensures bytes { Writes (S.written sink.old) (S.written sink.new) pen.old pen.new result
-        (46 ∷ map letter_text path.now) }
+        (full_stop ∷ map letter_text path.now) }
     ensures cause { HasCause (S.faults sink.old) (S.faults sink.new) result }
 {
     pen.push(sink, b".")?;
@@ -102,7 +103,7 @@ fn write_fields<S: Sink>(fields: &[Field], pen: &mut Pen, sink: &mut S) -> Resul
 
 fn write_behind_blank<S: Sink>(field: &Field, pen: &mut Pen, sink: &mut S) -> Result<(), Failed>
     ensures bytes { Writes (S.written sink.old) (S.written sink.new) pen.old pen.new result
-        (32 ∷ field_text field.now) }
+        (space ∷ field_text field.now) }
     ensures cause { HasCause (S.faults sink.old) (S.faults sink.new) result }
 {
     pen.push(sink, b" ")?;
@@ -214,7 +215,7 @@ fn write_not_proved<S: Sink>(
 ) -> Result<(), Failed>
     requires { IsOver (length vars.now) r.now }
     ensures bytes { Writes (S.written sink.old) (S.written sink.new) pen.old pen.new result
-        (codes "not-proved" ++ (fields_text fields.now ++ 32 ∷ poly_text vars.now r.now)) }
+        (codes "not-proved" ++ (fields_text fields.now ++ space ∷ poly_text vars.now r.now)) }
     ensures cause { HasCause (S.faults sink.old) (S.faults sink.new) result }
 {
     write_worded(b"not-proved", fields, pen, sink)?;
@@ -252,7 +253,7 @@ pub fn write_verdict<S: Sink>(
 
 fn write_name<S: Sink>(name: VarName, pen: &mut Pen, sink: &mut S) -> Result<(), Failed>
     ensures bytes { Writes (S.written sink.old) (S.written sink.new) pen.old pen.new result
-        (32 ∷ variable_text name) }
+        (space ∷ variable_text name) }
     ensures cause { HasCause (S.faults sink.old) (S.faults sink.new) result }
 {
     pen.push(sink, b" ")?;
@@ -272,7 +273,7 @@ fn write_names<S: Sink>(vars: &Vars, pen: &mut Pen, sink: &mut S) -> Result<(), 
 
 fn write_tried<S: Sink>(what: Attempt, pen: &mut Pen, sink: &mut S) -> Result<(), Failed>
     ensures bytes { Writes (S.written sink.old) (S.written sink.new) pen.old pen.new result
-        (32 ∷ (attempt_word what ++ fields_text (attempt_fields what))) }
+        (space ∷ (attempt_word what ++ fields_text (attempt_fields what))) }
     ensures cause { HasCause (S.faults sink.old) (S.faults sink.new) result }
 {
     pen.push(sink, b" ")?;
@@ -287,7 +288,7 @@ fn write_told<S: Sink>(
 ) -> Result<(), Failed>
     requires { VerdictIsOver (length vars.now) verdict.now }
     ensures bytes { Writes (S.written sink.old) (S.written sink.new) pen.old pen.new result
-        (32 ∷ verdict_text vars.now verdict.now) }
+        (space ∷ verdict_text vars.now verdict.now) }
     ensures cause { HasCause (S.faults sink.old) (S.faults sink.new) result }
 {
     pen.push(sink, b" ")?;

@@ -1,4 +1,5 @@
 ghost use Rattle.std.specs.Prelude.{◌≡◌, ◌<◌, ◌≤◌, ◌+◌, ◌^◌, ◌++◌, ◌∷◌, [], ℕ, List, Option, Some, None, Result, Err, IfOk, IfErr, OnOk, IsErrOf, length};
+ghost use Rattle.desk_io.specs.Characters.{line_feed};
 ghost use Rattle.proof_log.specs.Text.{line_text, IsLine, names_after};
 ghost use Rattle.proof_log.specs.Places.{goes};
 ghost use Rattle.proof_log.specs.Grammar.{IsUnended};
@@ -98,7 +99,7 @@ impl LogReader {
         ensures fed { self.new.fed ≡ self.old.fed + 1 }
         ensures line { (bytes : List ℕ) (front : List LogLine) → Fed front self.old bytes
             → IsUnended text.now → Ended result lines.old.items lines.new.items front self.new
-            (bytes ++ (text.now ++ 10 ∷ [])) }
+            (bytes ++ (text.now ++ line_feed ∷ [])) }
     {
         self.fed += 1;
         match self.line_of(text) {
@@ -152,7 +153,7 @@ impl LogReader {
         ensures fed { OnOk result (self.new.fed ≡ self.old.fed + length front.now + 1) }
         ensures line { (bytes : List ℕ) (ls : List LogLine) → Fed ls self.old bytes
             → Ended result lines.old.items lines.new.items ls self.new
-            (bytes ++ (front.now ++ 10 ∷ [])) }
+            (bytes ++ (front.now ++ line_feed ∷ [])) }
     {
         if self.held.is_empty() {
             self.fed += front.len() as u32;

@@ -1,5 +1,6 @@
 ghost use Rattle.std.specs.Prelude.{◌≡◌, ◌≢◌, ◌≤◌, ◌∷◌, ◌++◌, [], List, ℕ, Bool, IsTrue, length, codes, MatchOption, IfSome, IfNone, IfOk, IsErrOf};
 ghost use Rattle.std.specs.List.{flat_map};
+ghost use Rattle.desk_io.specs.Characters.{space};
 ghost use Rattle.poly_model.specs.Names.{are_variables, number};
 ghost use Rattle.poly_model.specs.Polynomial.{Polynomial};
 ghost use Rattle.poly_model.specs.declared.limits.TheConstants.{MOST_NUMBER};
@@ -162,10 +163,10 @@ pub fn polys_of(alloc: Global, text: &[u8], vars: &Vars) -> Result<Vec<OwnedPoly
 /// The rest of a line behind its blank.
 fn tail_behind(alloc: Global, kind: TailKind, behind: &[u8], vars: &Vars) -> Result<Tail, LineFault>
     ensures reads { IfOk result (λ t. (tail_kind_of t ≡ kind) × FitsTail vars.now t
-        × (32 ∷ behind.now ≡ tail_text vars.now t)) }
+        × (space ∷ behind.now ≡ tail_text vars.now t)) }
     ensures refuses { kind ≢ TailKind.Nothing → kind ≢ TailKind.Names
         → IsErrOf result LineFault.Malformed → (t : Tail) → tail_kind_of t ≡ kind
-        → FitsTail vars.now t → 32 ∷ behind.now ≢ tail_text vars.now t }
+        → FitsTail vars.now t → space ∷ behind.now ≢ tail_text vars.now t }
 {
     match kind {
         TailKind::Poly => match poly_of(alloc, behind, vars) {
