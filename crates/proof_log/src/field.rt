@@ -1,4 +1,4 @@
-ghost use Rattle.std.specs.Prelude.{◌≡◌, ◌≢◌, ◌<◌, ◌≤◌, ◌^◌, ◌++◌, ◌∷◌, List, ℕ, ℤ, pos, Bool, false, length, map, decimal, IfSome, IfNone, IfOk, IsErrOf, MatchOption};
+ghost use Rattle.std.specs.Prelude.{◌≡◌, ◌≢◌, ◌<◌, ◌≤◌, ◌^◌, ◌++◌, ◌∷◌, List, ℕ, ℤ, pos, Bool, false, length, map, decimal, codes, IfSome, IfNone, IfOk, IsErrOf, MatchOption};
 ghost use Rattle.desk_io.specs.Characters.{full_stop, space};
 ghost use Rattle.proof_log.specs.declared.fault.LineFault.{LineFault};
 ghost use Rattle.proof_log.specs.Cuts.{EndsAt};
