@@ -1,6 +1,7 @@
 // Files of the system.
+use crate::memory::is_read_as;
 use anyhow::{Result, bail};
-use desk_io::{Desk, DeskFault, Failed, RealDesk, RealSink, Sink, read_whole};
+use desk_io::{Desk, DeskFault, Failed, RealDesk, RealSink, Sink};
 use std::fs;
 use std::rt::Files;
 
@@ -16,17 +17,13 @@ pub fn check_file<R: Files + AllocGlobal>(rt: &R) -> Result<()> {
     if desk.read("written", 8, &mut piece) != Ok(2) || &piece != b"es.." {
         bail!("another piece");
     }
-    let rows: [(&str, u64, Option<DeskFault>); 3] = [
-        ("written", 9, Some(DeskFault::TooLarge)),
-        ("missing", 9, Some(DeskFault::ReadFault)),
-        ("written", 10, None),
+    let rows: [(&str, u64, Result<&[u8], DeskFault>); 3] = [
+        ("written", 9, Err(DeskFault::TooLarge)),
+        ("missing", 9, Err(DeskFault::ReadFault)),
+        ("written", 10, Ok(b"some bytes")),
     ];
-    for (name, most, fault) in rows {
-        let is_as_worked = match read_whole(alloc, &mut desk, name, most) {
-            Ok(bytes) => fault.is_none() && bytes.as_slice() == b"some bytes".as_slice(),
-            Err(error) => fault == Some(error),
-        };
-        if !is_as_worked {
+    for (name, most, wanted) in rows {
+        if !is_read_as(alloc, &mut desk, name, most, wanted) {
             bail!("{name} of at most {most} bytes: another answer");
         }
     }

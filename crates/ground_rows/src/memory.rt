@@ -30,24 +30,35 @@ pub fn check_reads(alloc: Global) -> Result<()> {
     Ok(())
 }
 
+/// Whether a file is read whole as worked: with these bytes, or with this fault.
+pub fn is_read_as<D: Desk>(
+    alloc: Global,
+    desk: &mut D,
+    name: &str,
+    most: u64,
+    wanted: Result<&[u8], DeskFault>,
+) -> bool {
+    match (read_whole(alloc, desk, name, most), wanted) {
+        (Ok(bytes), Ok(wanted)) => bytes.as_slice() == wanted,
+        (Err(fault), Err(wanted)) => fault == wanted,
+        (Ok(_), Err(_)) | (Err(_), Ok(_)) => false,
+    }
+}
+
 /// Files read whole: of an empty one, a missing one, and of one at its limit, above it, and where a read fails.
 pub fn check_whole_files(alloc: Global) -> Result<()> {
     let long = [7u8; 5000];
-    let rows: [(&[u8], &str, u64, &[u64], Option<DeskFault>); 6] = [
-        (b"", "a", 0, &[], None),
-        (b"hello", "b", 5, &[], Some(DeskFault::ReadFault)),
-        (b"hello", "a", 4, &[], Some(DeskFault::TooLarge)),
-        (&long, "a", 5000, &[], None),
-        (&long, "a", 4999, &[], Some(DeskFault::TooLarge)),
-        (&long, "a", 5000, &[3], Some(DeskFault::ReadFault)),
+    let rows: [(&[u8], &str, u64, &[u64], Result<&[u8], DeskFault>); 6] = [
+        (b"", "a", 0, &[], Ok(b"")),
+        (b"hello", "b", 5, &[], Err(DeskFault::ReadFault)),
+        (b"hello", "a", 4, &[], Err(DeskFault::TooLarge)),
+        (&long, "a", 5000, &[], Ok(&long)),
+        (&long, "a", 4999, &[], Err(DeskFault::TooLarge)),
+        (&long, "a", 5000, &[3], Err(DeskFault::ReadFault)),
     ];
-    for (file, name, most, fails, fault) in rows {
+    for (file, name, most, fails, wanted) in rows {
         let mut desk = desk_of(alloc, file, fails)?;
-        let is_as_worked = match read_whole(alloc, &mut desk, name, most) {
-            Ok(bytes) => fault.is_none() && bytes.as_slice() == file,
-            Err(error) => fault == Some(error),
-        };
-        if !is_as_worked {
+        if !is_read_as(alloc, &mut desk, name, most, wanted) {
             bail!("{name} of at most {most} bytes: another answer");
         }
     }
