@@ -7,7 +7,7 @@ ghost use Rattle.term_store.specs.declared.store.StoreFault.TheVariants.{Full};
 use crate::moving::{make_room, make_way};
 use crate::region::TermRegion;
 use crate::run::Run;
-use crate::seats::{append, last_end, seat, vacate, without};
+use crate::seats::{append, items, last_end, seat, vacate, without};
 use poly_model::Term;
 use std::alloc::{AllocError, Global};
 use term_store::{Slot, StoreFault, TermStore};
@@ -87,6 +87,7 @@ impl TermStore for TermRegion {
         Slot(slot)
     }
 
+    #[inline(always)]
     fn push(&mut self, slot: Slot, term: Term) {
         make_room(&mut self.terms, &mut self.runs, &mut self.order, self.total);
         append(
@@ -110,6 +111,11 @@ impl TermStore for TermRegion {
 
     fn len(&self, slot: Slot) -> usize {
         self.runs[slot.0].len
+    }
+
+    fn terms(&self, slot: Slot) -> &[Term] {
+        let run = self.runs[slot.0];
+        items(&self.terms, run.start, run.len)
     }
 
     fn get(&self, slot: Slot, i: usize) -> Term {

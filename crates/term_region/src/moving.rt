@@ -100,6 +100,7 @@ pub fn compact(terms: &mut Vec<Term>, runs: &mut Vec<Run>, order: &mut Vec<usize
 }
 
 /// Moves the live runs down where the pool is used up.
+#[inline(always)]
 pub fn make_room(terms: &mut Vec<Term>, runs: &mut Vec<Run>, order: &mut Vec<usize>, total: usize)
     requires ordered { Ordered runs.old.items order.old.items (length terms.old.items) }
     requires spare { sum_of units_of runs.old.items < total }

@@ -1,4 +1,4 @@
-ghost use Rattle.std.specs.Prelude.{◌≡◌, ◌≢◌, ◌≤◌, ◌<◌, ◌+◌, ◌-◌, ◌++◌, ◌∷◌, ℕ, suc, [], IsTrue, length, take, true, false, get_or};
+ghost use Rattle.std.specs.Prelude.{◌≡◌, ◌≢◌, ◌≤◌, ◌<◌, ◌+◌, ◌-◌, ◌++◌, ◌∷◌, ℕ, suc, [], IsTrue, length, take, drop, true, false, get_or};
 ghost use Rattle.std.specs.Vec.{vec_capacity};
 ghost use Rattle.term_region.specs.Pool.{run_at, list_of, Ordered, Vacant, Stays, sum_of, one_of, units_of, ends_last};
 ghost use Rattle.term_store.specs.States.{newest_without};
@@ -40,7 +40,17 @@ pub fn seat(runs: &mut Vec<Run>, vacant: &mut Vec<usize>, run: Run) -> usize
     }
 }
 
+/// So many terms, from a place on.
+#[inline(always)]
+pub fn items(terms: &[Term], start: usize, len: usize) -> &[Term]
+    requires { start + len ≤ length terms.now }
+    ensures { result.now ≡ take len (drop start terms.now) }
+{
+    &terms[start..start + len]
+}
+
 /// Appends a term to the list that ends last.
+#[inline(always)]
 pub fn append(terms: &mut Vec<Term>, runs: &mut Vec<Run>, slot: usize, term: Term, entries: usize)
     requires last { IsTrue (ends_last runs.old.items entries (length terms.old.items) slot) }
     requires below { slot < length runs.old.items }
