@@ -2,6 +2,7 @@
 #     make install PREFIX=/usr/local      program, man page, completion, manual and gallery
 #     make uninstall PREFIX=/usr/local
 #     make site SITE=site                 manual, tutorial and gallery as pages
+#     make trees                          the trees of the gallery's logs, docs/trees
 #     make check-contrib                  the tests of contrib/ and of the book
 
 PREFIX = /usr/local
@@ -20,24 +21,30 @@ help:
 	@sed -n 's/^#     //p' Makefile
 
 install:
-	@test -x $(PROGRAM) || { echo "make: $(PROGRAM) is not there: ./gclc svg FILE proves and builds it" >&2; exit 1; }
-	install -D -m 755 $(PROGRAM) $(bin)
-	install -D -m 644 docs/gclc.1 $(man)
-	install -D -m 644 contrib/complete/gclc.bash $(bash)
-	install -D -m 644 contrib/complete/_gclc $(zsh)
-	install -d $(doc)/docs/pictures $(doc)/examples
-	install -m 644 docs/*.md $(doc)/docs
-	install -m 644 docs/pictures/*.svg $(doc)/docs/pictures
-	install -m 644 examples/*.md examples/*.gcl examples/*.log $(doc)/examples
+	@test -x "$(PROGRAM)" || { echo "make: $(PROGRAM) is not there: ./gclc svg FILE proves and builds it" >&2; exit 1; }
+	install -D -m 755 "$(PROGRAM)" "$(bin)"
+	install -D -m 644 docs/gclc.1 "$(man)"
+	install -D -m 644 contrib/complete/gclc.bash "$(bash)"
+	install -D -m 644 contrib/complete/_gclc "$(zsh)"
+	install -d "$(doc)/docs/pictures" "$(doc)/docs/trees" "$(doc)/examples"
+	install -m 644 docs/*.md "$(doc)/docs"
+	install -m 644 docs/pictures/*.svg "$(doc)/docs/pictures"
+	install -m 644 docs/trees/*.svg "$(doc)/docs/trees"
+	install -m 644 examples/*.md examples/*.gcl examples/*.log "$(doc)/examples"
 
 uninstall:
-	rm -f $(bin) $(man) $(bash) $(zsh)
-	rm -rf $(doc)
+	rm -f "$(bin)" "$(man)" "$(bash)" "$(zsh)"
+	rm -rf "$(doc)"
 
 site:
-	contrib/site $(SITE)
+	contrib/site "$(SITE)"
+
+trees:
+	for log in $$(grep -lE '^(split|factor) ' examples/*.log); do \
+	    contrib/tree $$log >docs/trees/$$(basename $$log .log).svg; \
+	done
 
 check-contrib:
 	contrib/test
 
-.PHONY: help install uninstall site check-contrib
+.PHONY: help install uninstall site trees check-contrib
