@@ -55,6 +55,6 @@ impl<R: Threads + Wait + Sync> Prover for Together<'_, R> {
     ghost ready = { IsSync R.row };
 
     fn prove(&self, alloc: Global, program: &Program) -> Result<Log, GclFault> {
-        prove_many(alloc, self.rt, program, self.workers.count, &Open)
+        prove_many(self.rt, alloc, program, self.workers.count, &Open)
     }
 }

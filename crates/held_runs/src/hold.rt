@@ -1,6 +1,7 @@
-// A gate that holds one branch of one worker. A branch here is one other than the root.
+// A gate that notes each path that it is lent, and holds one branch of one worker. A branch here is one other than the root.
 use branch_pool::Gate;
 use proof_steps::Path;
+use std::alloc::{AllocError, Global};
 use std::sync::atomic::{AtomicU64, Ordering};
 
 // How often a held worker looks whether its hold is over.
@@ -15,12 +16,20 @@ pub enum Until {
     OthersPassed,
 }
 
-/// Holds a branch of a worker, of a tree whose paths are these.
+/// A path of the tree, and how often the gate was lent it.
 #[derive(Drop)]
-pub struct Hold<'a> {
+struct Lent {
+    path: Path,
+    times: AtomicU64,
+}
+
+/// Holds a branch of a worker, in a tree of given paths.
+#[derive(Drop)]
+pub struct Hold {
     worker: u32,
     until: Until,
-    paths: &'a [Path],
+    lent: Vec<Lent>,
+    strange: AtomicU64,
     passed: AtomicU64,
     mine: AtomicU64,
     others: AtomicU64,
@@ -40,23 +49,52 @@ fn is_below(path: &Path, upper: &Path) -> bool {
     true
 }
 
-impl<'a> Hold<'a> {
-    pub fn new(worker: u32, until: Until, paths: &'a [Path]) -> Hold<'a> {
-        Hold {
+impl Hold {
+    pub fn new(
+        alloc: Global,
+        worker: u32,
+        until: Until,
+        paths: &[Path],
+    ) -> Result<Hold, AllocError> {
+        let mut lent = Vec::new(alloc);
+        for path in paths {
+            lent.push(Lent {
+                path: *path,
+                times: AtomicU64::new(0),
+            })?;
+        }
+        Ok(Hold {
             worker,
             until,
-            paths,
+            lent,
+            strange: AtomicU64::new(0),
             passed: AtomicU64::new(0),
             mine: AtomicU64::new(0),
             others: AtomicU64::new(0),
             ran_out: AtomicU64::new(0),
-        }
+        })
     }
 
-    /// Each path passed once, and no hold ran out of turns.
+    /// Each path of the tree was lent once and no other path, by the workers 1 and 2 alone, and no hold ran out of turns.
     pub fn went_well(&self) -> bool {
-        self.passed.load(Ordering::SeqCst) == self.paths.len() as u64
+        self.lent
+            .iter()
+            .all(|lent| lent.times.load(Ordering::SeqCst) == 1)
+            && self.strange.load(Ordering::SeqCst) == 0
             && self.ran_out.load(Ordering::SeqCst) == 0
+    }
+
+    fn note(&self, worker: u32, path: &Path) {
+        if worker != 1 && worker != 2 {
+            self.strange.store(1, Ordering::SeqCst);
+        }
+        match self.lent.iter().find(|lent| lent.path.is(path)) {
+            Some(lent) => {
+                lent.times.fetch_add(1, Ordering::SeqCst);
+            }
+            None => self.strange.store(1, Ordering::SeqCst),
+        }
+        self.passed.fetch_add(1, Ordering::SeqCst);
     }
 
     // How many branches of the worker pass before the one that is held.
@@ -75,7 +113,11 @@ impl<'a> Hold<'a> {
     }
 
     fn hold(&self, path: &Path) {
-        let beside = self.paths.iter().filter(|p| !is_below(p, path)).count() as u64;
+        let beside = self
+            .lent
+            .iter()
+            .filter(|lent| !is_below(&lent.path, path))
+            .count() as u64;
         for _ in 0..TURNS {
             if self.is_over(beside) {
                 return;
@@ -85,9 +127,9 @@ impl<'a> Hold<'a> {
     }
 }
 
-impl Gate for Hold<'_> {
+impl Gate for Hold {
     fn pass(&self, worker: u32, path: &Path) {
-        self.passed.fetch_add(1, Ordering::SeqCst);
+        self.note(worker, path);
         if path.len() == 0 {
             return;
         }

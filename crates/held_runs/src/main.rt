@@ -1,6 +1,7 @@
 //! Proves a statement by two workers in four runs, in each of which a gate holds one branch of one worker while the other goes
-//! on, and tells in how many the log is that of one worker and no hold ran out: the workers share the tree, whatever the
-//! schedule. A program that works on one thread, or parts the tree beforehand, comes to the end of a hold's turns.
+//! on. Tells in how many the log is that of one worker, the gate was lent each path of it once and no other path, by the workers
+//! 1 and 2 alone, and no hold ran out: the workers share the tree, whatever the schedule. A program that works on one thread, or
+//! parts the tree beforehand, comes to the end of a hold's turns, or lends the gate other paths.
 #![tactic(auto)]
 
 ghost use Rattle.std.specs.Prelude.{IfOk};
@@ -74,8 +75,8 @@ fn main(rt: HostRuntime) -> Result<()> {
         (1, Until::OthersPassed),
         (2, Until::OthersPassed),
     ] {
-        let hold = Hold::new(worker, until, &paths);
-        let log = prove_many(alloc, &rt, &program, 2, &hold)?;
+        let hold = Hold::new(alloc, worker, until, &paths)?;
+        let log = prove_many(&rt, alloc, &program, 2, &hold)?;
         if hold.went_well() && text_of(alloc, &log)? == text {
             good = good.saturating_add(1);
         }
