@@ -6,7 +6,7 @@ use Rattle.term_store.specs.Changes.{Makes}
 use Rattle.poly_model.specs.Bounded.{bounded_rows}
 use Rattle.polynomials.specs.Held.{polynomial_at}
 use Rattle.polynomials.proofs.Outcomes.{Summing}
-use Rattle.polynomials.proofs.product.mul_rows.Given as goal
+use Rattle.polynomials.proofs.product.rows_in_turn.Given as goal
 
 abbrev pub invariant-loop-i : goal.invariant-loop-i
 invariant-loop-i g l =
