@@ -1,26 +1,20 @@
-//! Proves a statement by two workers in four runs, in each of which a gate holds one branch of one worker while the other goes
-//! on. Tells in how many the log is that of one worker, the gate was lent each path of it once and no other path, by the workers
-//! 1 and 2 alone, and no hold ran out: the workers share the tree, whatever the schedule. A program that works on one thread, or
-//! parts the tree beforehand, comes to the end of a hold's turns, or lends the gate other paths.
-#![tactic(auto)]
-
+// A statement proved by two workers in four runs, in each of which a gate holds one branch of one worker while the other goes on.
 ghost use Rattle.std.specs.Prelude.{IfOk};
 ghost use Rattle.gcl_names.specs.Sound.{IsSound};
 ghost use Rattle.proof_log.specs.declared.limits.TheConstants.{VERSION};
 ghost use Rattle.prove_run.specs.Whole.{IsWhole};
 
-mod hold;
-
+use crate::hold::{Hold, Until};
 use anyhow::{Result, bail};
 use desk_io::{MemSink, Pen};
 use gcl_names::{Program, resolve};
 use gcl_reader::{MOST_BYTES, read};
-use hold::{Hold, Until};
 use proof_log::{Log, write_log};
 use proof_steps::Path;
 use prove_run::{prove_many, prove_one};
 use std::alloc::Global;
-use std::fs;
+use std::sync::Wait;
+use std::thread::Threads;
 
 // The program of a file.
 fn program_of(alloc: Global, bytes: &[u8]) -> Result<Program>
@@ -63,10 +57,16 @@ fn text_of(alloc: Global, log: &Log) -> Result<Vec<u8>>
     Ok(text)
 }
 
-fn main(rt: HostRuntime) -> Result<()> {
-    let alloc = rt.alloc();
-    let program = program_of(alloc, &fs::read(&rt, "altitudes.gcl")?)?;
-    let text = fs::read(&rt, "altitudes.log")?;
+/// In how many of the runs the log is that of one worker, the gate was lent each path of it once and no other path, by the workers
+/// 1 and 2 alone, and no hold ran out: the workers share the tree, whatever the schedule. A program that works on one thread, or parts
+/// the tree beforehand, comes to the end of a hold's turns, or lends the gate other paths.
+pub fn count_good<R: Threads + Wait + Sync>(
+    rt: &R,
+    alloc: Global,
+    file: &[u8],
+    text: &[u8],
+) -> Result<u32> {
+    let program = program_of(alloc, file)?;
     let paths = paths_of(alloc, &prove_one(alloc, &program)?)?;
     let mut good: u32 = 0;
     for (worker, until) in [
@@ -76,11 +76,10 @@ fn main(rt: HostRuntime) -> Result<()> {
         (2, Until::OthersPassed),
     ] {
         let hold = Hold::new(alloc, worker, until, &paths)?;
-        let log = prove_many(&rt, alloc, &program, 2, &hold)?;
-        if hold.went_well() && text_of(alloc, &log)? == text {
+        let log = prove_many(rt, alloc, &program, 2, &hold)?;
+        if hold.went_well() && text_of(alloc, &log)?.as_slice() == text {
             good = good.saturating_add(1);
         }
     }
-    println!(rt; "{good} of 4 runs")?;
-    Ok(())
+    Ok(good)
 }

@@ -1,5 +1,5 @@
 use Rattle.polynomials.proofs.Results as results
-use Rattle.arithmetic.proofs.operation.division.Goals as goal
+use Rattle.runs.proofs.operation.division.Goals as goal
 
 pub class-requires : goal.class-requires
 class-requires g c = results.made-poly _ _ _ _ c.copy_in-q.ensures

@@ -1,6 +1,6 @@
 use Rattle.polynomials.proofs.Results as results
-use Rattle.arithmetic.proofs.Answered.{answered}
-use Rattle.arithmetic.proofs.operation.apply.Goals as goal
+use Rattle.runs.proofs.Answered.{answered}
+use Rattle.runs.proofs.operation.apply.Goals as goal
 
 pub returns-in-Add : goal.returns-in-Add
 returns-in-Add g c = answered _ _ _ _ c.add.ensures

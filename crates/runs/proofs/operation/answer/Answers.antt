@@ -1,5 +1,5 @@
 use Rattle.polynomials.proofs.Results as results
-use Rattle.arithmetic.proofs.operation.answer.Goals as goal
+use Rattle.runs.proofs.operation.answer.Goals as goal
 
 pub apply-requires-clause-p : goal.apply-requires-clause-p
 apply-requires-clause-p g c = results.kept-poly _ _ _ _ c.copy_in-q.ensures.makes (results.made-poly _ _ _ _ c.copy_in-p.ensures)

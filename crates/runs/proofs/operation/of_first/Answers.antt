@@ -1,7 +1,7 @@
 use Rattle.std.proofs.Common.{arith}
 use Rattle.polynomials.proofs.Results as results
 use Rattle.pseudo_div.proofs.Reducing.{place-below}
-use Rattle.arithmetic.proofs.operation.of_first.Goals as goal
+use Rattle.runs.proofs.operation.of_first.Goals as goal
 
 pub coefficient-requires-clause-var : goal.coefficient-requires-clause-var
 coefficient-requires-clause-var g c = let b = place-below _ c.args.var c.requires.p.standard c.requires.class in omega (arith, b)
