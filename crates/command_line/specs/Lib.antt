@@ -4,6 +4,7 @@ pub mod VerdictLines
 pub mod Proving
 pub mod Checking
 pub mod Found
+pub mod Trials
 pub mod Table
 pub mod Command
 pub mod Pipeline

@@ -10,12 +10,14 @@ mod drawn;
 mod invocation;
 mod laws;
 mod note;
+mod numbers;
 mod pipeline;
 mod prover;
 mod proving;
 mod run;
 mod stage;
 mod status;
+mod trial;
 mod verdict_lines;
 mod workers;
 

@@ -57,8 +57,8 @@ fn status_of(proofs: &[Proof]) -> Status
     Status::Done
 }
 
-// Puts the log whole, with a pen that has gathered nothing.
-fn put_log<S: Sink>(log: &Log, mut pen: Pen, out: &mut S) -> Result<(), Failed>
+/// Puts the log whole, with a pen that has gathered nothing.
+pub fn put_log<S: Sink>(log: &Log, mut pen: Pen, out: &mut S) -> Result<(), Failed>
     requires pen { pen ≡ [] }
     requires own { All IsOwn log.now.proofs }
     ensures bytes { Puts (S.written out.old) (S.written out.new) result (log_text log.now.proofs) }
