@@ -7,6 +7,7 @@ pub mod Found
 pub mod Table
 pub mod Command
 pub mod Pipeline
+pub mod Samples
 pub mod Forms
 pub mod Run
 pub mod Contract
