@@ -4,8 +4,9 @@ use Rattle.std.specs.Option.{option_copied}
 use Rattle.command_line.specs.Table.{Form, TextOf, ProveOf, CheckOf, TrialOf}
 use Rattle.command_line.specs.Command.{Command}
 use Rattle.command_line.specs.Pipeline.{svg_of, latex_of, system_of, show_of}
+use Rattle.command_line.specs.Samples.{sample_of}
 use Rattle.command_line.specs.declared.invocation.TextForm.{TextForm}
-use Rattle.command_line.specs.declared.invocation.TextForm.TheVariants.{Svg, Latex, System, Show}
+use Rattle.command_line.specs.declared.invocation.TextForm.TheVariants.{Svg, Latex, System, Show, Sample}
 use Rattle.command_line.specs.declared.invocation.Invocation.{Invocation}
 use Rattle.command_line.specs.declared.invocation.Invocation.TheVariants.{Wrong, Text, Prove, ProveTogether, Check, Trial}
 
@@ -15,6 +16,7 @@ command_of Svg = svg_of
 command_of Latex = latex_of
 command_of System = system_of
 command_of Show = show_of
+command_of Sample = sample_of
 
 abbrev pub form_seen : Invocation → Option Form
 form_seen Wrong = None

@@ -8,6 +8,7 @@ pub mod Trials
 pub mod Table
 pub mod Command
 pub mod Pipeline
+pub mod Samples
 pub mod Forms
 pub mod Run
 pub mod Contract

@@ -9,6 +9,7 @@ use Rattle.command_line.specs.Answer.{Answer, usage, read_fault, too_large, text
 use Rattle.command_line.specs.Command.{Command}
 use Rattle.command_line.specs.Pipeline.{svg_of, latex_of, system_of, show_of}
 use Rattle.command_line.specs.Proving.{proofs_of, proved}
+use Rattle.command_line.specs.Samples.{sample_of}
 use Rattle.command_line.specs.Checking.{IsChecked, IsCheckedAgainst}
 use Rattle.command_line.specs.Trials.{trial_of}
 use Rattle.command_line.specs.declared.numbers.TheConstants.{TRIALS}
@@ -136,6 +137,7 @@ rows =
     ∷ record { word = codes "latex"; form = one_file (TextOf latex_of) }
     ∷ record { word = codes "system"; form = one_file (TextOf system_of) }
     ∷ record { word = codes "show"; form = one_file (TextOf show_of) }
+    ∷ record { word = codes "sample"; form = one_file (TextOf sample_of) }
     ∷ record { word = codes "prove"; form = prove_words }
     ∷ record { word = codes "check"; form = log_and_file }
     ∷ record { word = codes "trial"; form = trial_words }

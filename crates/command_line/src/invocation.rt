@@ -14,6 +14,7 @@ pub enum TextForm {
     Latex,
     System,
     Show,
+    Sample,
 }
 
 /// What the words ask for.
@@ -112,6 +113,7 @@ pub fn read_command(words: &[String]) -> Invocation<'_>
         "latex" => read_text(TextForm::Latex, names),
         "system" => read_text(TextForm::System, names),
         "show" => read_text(TextForm::Show, names),
+        "sample" => read_text(TextForm::Sample, names),
         "prove" => read_prove(names),
         "check" => read_check(names),
         "trial" => read_trial(names),

@@ -15,6 +15,7 @@ mod pipeline;
 mod prover;
 mod proving;
 mod run;
+mod sampling;
 mod stage;
 mod status;
 mod trial;
@@ -23,5 +24,5 @@ mod workers;
 
 pub use check::check_run;
 pub use laws::{a_yes_is_assured, answers_are_unique, what_is_proved_is_assured};
-pub use run::{gclc_run, latex_run, prove_one_run, show_run, svg_run, system_run};
+pub use run::{gclc_run, latex_run, prove_one_run, sample_run, show_run, svg_run, system_run};
 pub use status::{Status, exit_code};
