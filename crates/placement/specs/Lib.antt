@@ -1,4 +1,0 @@
-pub mod Placing
-pub mod Small
-pub mod Images
-pub mod Laws
