@@ -44,8 +44,8 @@ pub none-told : (word : List ℕ) → ((n : ℕ) → n < TRIALS → word ≡ dec
 none-told word never =
     let n = digits_value 10 word in
     by-test n (nat_lt n TRIALS && bytes_eq word (decimal n)) (λ passed.
-      let parts = and_parts (nat_lt n TRIALS) (bytes_eq word (decimal n)) passed in
-      never n (grind (arith, nat_tests, parts.0)) ((bytes_eq-Decides word (decimal n)).0 parts.1))
+    let parts = and_parts (nat_lt n TRIALS) (bytes_eq word (decimal n)) passed in
+    never n (grind (arith, nat_tests, parts.0)) ((bytes_eq-Decides word (decimal n)).0 parts.1))
 
 -- ---- the log
 -- No fault is found of the text of a log that is accepted.

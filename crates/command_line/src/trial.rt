@@ -91,12 +91,7 @@ fn log_bytes(alloc: Global, log: &Log) -> Result<Vec<u8>, AllocError>
 }
 
 // Checks the text of a log that a prover made. It is accepted, so what fails is for want of memory alone.
-fn confirm<D: Domain>(
-    alloc: Global,
-    domain: &D,
-    log: &Log,
-    bytes: &[u8],
-) -> Result<(), AllocError>
+fn confirm<D: Domain>(alloc: Global, domain: &D, log: &Log, bytes: &[u8]) -> Result<(), AllocError>
     requires text { bytes.now ≡ log_text log.now.proofs }
     requires accepted { IsAccepted VERSION log.now.proofs }
     requires whole { IsWhole VERSION log.now.proofs }

@@ -14,11 +14,7 @@ use std::alloc::Global;
 /// Checks the text of a log that anyone may have written: it is accepted, or its first line at fault is told.
 ///
 /// The domain is not used: the call tells what the verdicts mean in it.
-pub fn check_text<D: Domain>(
-    alloc: Global,
-    domain: &D,
-    text: &[u8],
-) -> Result<Checked, CheckFault>
+pub fn check_text<D: Domain>(alloc: Global, domain: &D, text: &[u8]) -> Result<Checked, CheckFault>
     requires { length text.now ≤ MOST_LOG_BYTES }
     ensures judged { Judged result text.now }
     ensures assured { IfOk result (λ checked. AreAssured D.operations checked.problems

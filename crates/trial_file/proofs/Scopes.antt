@@ -88,7 +88,7 @@ point-ready i j p s few r = record {
   points = λ k below. elim (cases_eq k i) [
     | inl e ↦ subst (λ (m : ℕ). meaning_in (name_text (Point m)) (with_point i s).names ≡ Some (meaning.Point m)) (sym e)
         (new-known (name_text (Point i)) (meaning.Point (length s.points)) s.names (r.unnamed i (omega arith) few)
-          ∙ ap (λ (m : ℕ). Some (meaning.Point m)) r.count)
+        ∙ ap (λ (m : ℕ). Some (meaning.Point m)) r.count)
     | inr d ↦ known-kept (name_text (Point k)) (name_text (Point i)) (meaning.Point (length s.points)) (meaning.Point k) s.names
         (r.points k (omega (arith, below, d)))
   ];
@@ -206,20 +206,20 @@ pub then-point : (ps : List Parameter) (k : ℕ) (us : List What) (earlier : Mea
     Refers (parameter.Point ∷ ps) (what.Name (name_text (Point k)) ∷ us) earlier c s (ref.Point k ∷ rs) after
 then-point ps k us earlier c s after rs known others =
     one-more parameter.Point ps (what.Name (name_text (Point k))) us earlier c s s after (ref.Point k) rs
-        (λ x xs e. used-point ps xs earlier c s x k e known) others
+    (λ x xs e. used-point ps xs earlier c s x k e known) others
 
 pub then-line : (ps : List Parameter) (k l : ℕ) (us : List What) (earlier : Meanings) (c : Bool) (s after : Scope) (rs : List Ref) →
     meaning_in (name_text (Line k)) earlier ≡ Some (meaning.Line l) → Refers ps us earlier false s rs after →
     Refers (parameter.Line ∷ ps) (what.Name (name_text (Line k)) ∷ us) earlier c s (ref.Line l ∷ rs) after
 then-line ps k l us earlier c s after rs known others =
     one-more parameter.Line ps (what.Name (name_text (Line k))) us earlier c s s after (ref.Line l) rs
-        (λ x xs e. used-line ps xs earlier c s x k l e known) others
+    (λ x xs e. used-line ps xs earlier c s x k l e known) others
 
 pub then-number : (r : Range) (ps : List Parameter) (z : ℤ) (us : List What) (earlier : Meanings) (c : Bool) (s after : Scope) (rs : List Ref) →
     Refers ps us earlier false s rs after → Refers (parameter.Number r ∷ ps) (what.Number z ∷ us) earlier c s (ref.Number z ∷ rs) after
 then-number r ps z us earlier c s after rs others =
     one-more (parameter.Number r) ps (what.Number z) us earlier c s s after (ref.Number z) rs
-        (λ x xs e. a-number r ps xs earlier c s x z e) others
+    (λ x xs e. a-number r ps xs earlier c s x z e) others
 
 -- None of the parameters makes something.
 abbrev pub only_used : List Parameter → Bool
@@ -242,11 +242,11 @@ pub then-new-point : (ps : List Parameter) (i : ℕ) (us : List What) (earlier :
     Refers (parameter.NewPoint ∷ ps) (what.Name (name_text (Point i)) ∷ us) earlier c s (ref.Point (length s.points) ∷ rs) after
 then-new-point ps i us earlier c s after rs old none few others =
     one-more parameter.NewPoint ps (what.Name (name_text (Point i))) us earlier c s (with_point i s) after (ref.Point (length s.points)) rs
-        (λ x xs e. new-point ps xs earlier c s x i e (nothing-made (name_text (Point i)) ps xs old) none few) others
+    (λ x xs e. new-point ps xs earlier c s x i e (nothing-made (name_text (Point i)) ps xs old) none few) others
 
 pub then-new-line : (ps : List Parameter) (i : ℕ) (us : List What) (earlier : Meanings) (c : Bool) (s after : Scope) (rs : List Ref) →
     only_used ps ≡ true → meaning_in (name_text (Line i)) s.names ≡ None → Refers ps us earlier false (with_line i s) rs after →
     Refers (parameter.NewLine ∷ ps) (what.Name (name_text (Line i)) ∷ us) earlier c s (ref.Line s.lines ∷ rs) after
 then-new-line ps i us earlier c s after rs old none others =
     one-more parameter.NewLine ps (what.Name (name_text (Line i))) us earlier c s (with_line i s) after (ref.Line s.lines) rs
-        (λ x xs e. new-line ps xs earlier c s x i e (nothing-made (name_text (Line i)) ps xs old) none) others
+    (λ x xs e. new-line ps xs earlier c s x i e (nothing-made (name_text (Line i)) ps xs old) none) others

@@ -94,13 +94,13 @@ behind-two w x y z e = ap (λ (l : List ℕ). w ++ l) (behind-one x y z e) ∙ s
 made-shown : (c : Construction) (i a b d : ℕ) → show_text (commands_by c i a b d) ≡ made_by c i a b d
 made-shown Midpoint i a b d =
     behind-one (command (codes "midpoint") (Point i ∷ Point a ∷ Point b ∷ [])) _ _
-        (prove-line (codes "collinear") (spaced (Point a ∷ Point b ∷ Point i ∷ [])))
+    (prove-line (codes "collinear") (spaced (Point a ∷ Point b ∷ Point i ∷ [])))
 made-shown Foot i a b d =
     behind-two (command (codes "line") (Line i ∷ Point a ∷ Point b ∷ [])) (command (codes "foot") (Point i ∷ Point d ∷ Line i ∷ [])) _ _
-        (prove-line (codes "collinear") (spaced (Point a ∷ Point b ∷ Point i ∷ [])))
+    (prove-line (codes "collinear") (spaced (Point a ∷ Point b ∷ Point i ∷ [])))
 made-shown Translate i a b d =
     behind-one (command (codes "translate") (Point i ∷ Point a ∷ Point b ∷ Point d ∷ [])) _ _
-        (prove-line (codes "parallel") (spaced (Point a ∷ Point b ∷ Point d ∷ Point i ∷ [])))
+    (prove-line (codes "parallel") (spaced (Point a ∷ Point b ∷ Point d ∷ Point i ∷ [])))
 
 steps-shown : (n i s : ℕ) → show_text (steps_commands n i s) ≡ steps_text n i s
 unfolding steps_commands steps_text
@@ -159,8 +159,8 @@ steps-fit (suc n) i s some few =
     let d = choice i s in
     let e = chosen-earlier i s some in
     all-append (step_commands i d) (steps_commands n (i + 1) (after_four s))
-        (made-fits d.construction i d.a d.b d.c (omega (arith, few)) e.first e.second e.third)
-        (steps-fit n (i + 1) (after_four s) (omega arith) (omega (arith, few)))
+    (made-fits d.construction i d.a d.b d.c (omega (arith, few)) e.first e.second e.third)
+    (steps-fit n (i + 1) (after_four s) (omega arith) (omega (arith, few)))
 
 number-fits : (k : ℕ) → k ≤ 60 → FitsParameter (parameter.Number range.Any) (what.Number (pos (k * UNIT)))
 number-fits k few = (omega (arith, few), refl)
@@ -188,8 +188,13 @@ steps-few (suc n) i s =
 pub trial-fits : (n : ℕ) → IsFitting (trial_commands n)
 trial-fits n =
     let steps = steps-few (steps_of n) 3 n in
-    let few = few-steps n in
-    (omega (arith, steps, few),
-      (free-fits 0 0 0 (lit< tt) (lit≤ tt) (lit≤ tt),
-        (free-fits 1 60 0 (lit< tt) (lit≤ tt) (lit≤ tt),
-          (free-fits 2 20 50 (lit< tt) (lit≤ tt) (lit≤ tt), steps-fit (steps_of n) 3 n (lit< tt) (omega (arith, few))))))
+    let few = few-steps n in (
+      omega (arith, steps, few),
+      (
+        free-fits 0 0 0 (lit< tt) (lit≤ tt) (lit≤ tt),
+        (
+          free-fits 1 60 0 (lit< tt) (lit≤ tt) (lit≤ tt),
+          (free-fits 2 20 50 (lit< tt) (lit≤ tt) (lit≤ tt), steps-fit (steps_of n) 3 n (lit< tt) (omega (arith, few))),
+        ),
+      ),
+    )

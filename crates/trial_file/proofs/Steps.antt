@@ -84,73 +84,73 @@ free-does : (i j p x y : ℕ) (s : Scope) → i < most → Ready i j p s →
 unfolding deed_of plain_deed
 free-does i j p x y s few r =
     does (free_point i x y) s s (with_point i s) (ref.Point (length s.points) ∷ ref.Number (pos (x * UNIT)) ∷ ref.Number (pos (y * UNIT)) ∷ []) _
-        (plain-counts s)
-        (then-new-point _ i _ _ _ _ _ _ refl (r.unnamed i (omega arith) few) (omega (arith, r.count, few))
-          (then-number range.Any _ _ _ _ _ _ _ _ (then-number range.Any _ _ _ _ _ _ _ _ (no-more _ _ _))))
-        refl
+    (plain-counts s)
+    (then-new-point _ i _ _ _ _ _ _ refl (r.unnamed i (omega arith) few) (omega (arith, r.count, few))
+    (then-number range.Any _ _ _ _ _ _ _ _ (then-number range.Any _ _ _ _ _ _ _ _ (no-more _ _ _))))
+    refl
 
 midpoint-does : (i j p a b : ℕ) (s : Scope) → i < most → a < i → b < i → Ready i j p s →
     Does (midpoint_of i a b) s (deed.Midpoint (length s.points) a b) (with_point i s)
 unfolding deed_of plain_deed
 midpoint-does i j p a b s few first second r =
     does (midpoint_of i a b) s s (with_point i s) (ref.Point (length s.points) ∷ ref.Point a ∷ ref.Point b ∷ []) _
-        (plain-counts s)
-        (then-new-point _ i _ _ _ _ _ _ refl (r.unnamed i (omega arith) few) (omega (arith, r.count, few))
-          (then-point _ a _ _ _ _ _ _ (r.points a first) (then-point _ b _ _ _ _ _ _ (r.points b second) (no-more _ _ _))))
-        refl
+    (plain-counts s)
+    (then-new-point _ i _ _ _ _ _ _ refl (r.unnamed i (omega arith) few) (omega (arith, r.count, few))
+    (then-point _ a _ _ _ _ _ _ (r.points a first) (then-point _ b _ _ _ _ _ _ (r.points b second) (no-more _ _ _))))
+    refl
 
 translate-does : (i j p a b c : ℕ) (s : Scope) → i < most → a < i → b < i → c < i → Ready i j p s →
     Does (translate_of i a b c) s (deed.Translate (length s.points) a b c) (with_point i s)
 unfolding deed_of plain_deed
 translate-does i j p a b c s few first second third r =
     does (translate_of i a b c) s s (with_point i s) (ref.Point (length s.points) ∷ ref.Point a ∷ ref.Point b ∷ ref.Point c ∷ []) _
-        (plain-counts s)
-        (then-new-point _ i _ _ _ _ _ _ refl (r.unnamed i (omega arith) few) (omega (arith, r.count, few))
-          (then-point _ a _ _ _ _ _ _ (r.points a first) (then-point _ b _ _ _ _ _ _ (r.points b second)
-            (then-point _ c _ _ _ _ _ _ (r.points c third) (no-more _ _ _)))))
-        refl
+    (plain-counts s)
+    (then-new-point _ i _ _ _ _ _ _ refl (r.unnamed i (omega arith) few) (omega (arith, r.count, few))
+    (then-point _ a _ _ _ _ _ _ (r.points a first) (then-point _ b _ _ _ _ _ _ (r.points b second)
+    (then-point _ c _ _ _ _ _ _ (r.points c third) (no-more _ _ _)))))
+    refl
 
 line-does : (i j p a b : ℕ) (s : Scope) → j < most → a < i → b < i → Ready i j p s →
     Does (line_of j a b) s (deed.Line s.lines a b) (with_line j s)
 unfolding deed_of plain_deed
 line-does i j p a b s few first second r =
     does (line_of j a b) s s (with_line j s) (ref.Line s.lines ∷ ref.Point a ∷ ref.Point b ∷ []) _
-        (plain-counts s)
-        (then-new-line _ j _ _ _ _ _ _ refl (r.unlined j (omega arith) few)
-          (then-point _ a _ _ _ _ _ _ (r.points a first) (then-point _ b _ _ _ _ _ _ (r.points b second) (no-more _ _ _))))
-        refl
+    (plain-counts s)
+    (then-new-line _ j _ _ _ _ _ _ refl (r.unlined j (omega arith) few)
+    (then-point _ a _ _ _ _ _ _ (r.points a first) (then-point _ b _ _ _ _ _ _ (r.points b second) (no-more _ _ _))))
+    refl
 
 foot-does : (i j p c k l : ℕ) (s : Scope) → i < most → c < i → Ready i j p s → meaning_in (name_text (Line k)) s.names ≡ Some (meaning.Line l) →
     Does (foot_of i c k) s (deed.Foot (length s.points) c l) (with_point i s)
 unfolding deed_of plain_deed
 foot-does i j p c k l s few third r line =
     does (foot_of i c k) s s (with_point i s) (ref.Point (length s.points) ∷ ref.Point c ∷ ref.Line l ∷ []) _
-        (plain-counts s)
-        (then-new-point _ i _ _ _ _ _ _ refl (r.unnamed i (omega arith) few) (omega (arith, r.count, few))
-          (then-point _ c _ _ _ _ _ _ (r.points c third) (then-line _ k l _ _ _ _ _ _ line (no-more _ _ _))))
-        refl
+    (plain-counts s)
+    (then-new-point _ i _ _ _ _ _ _ refl (r.unnamed i (omega arith) few) (omega (arith, r.count, few))
+    (then-point _ c _ _ _ _ _ _ (r.points c third) (then-line _ k l _ _ _ _ _ _ line (no-more _ _ _))))
+    refl
 
 collinear-does : (i j p a b c : ℕ) (s : Scope) → p < MOST_PROVES → a < i → b < i → c < i → Ready i j p s →
     Does (collinear a b c) s
-        (deed.Prove statement.Collinear (a ∷ b ∷ c ∷ [])) (proved s)
+    (deed.Prove statement.Collinear (a ∷ b ∷ c ∷ [])) (proved s)
 unfolding deed_of points_in
 collinear-does i j p a b c s few first second third r =
     does (collinear a b c) s (proved s) (proved s) (ref.Point a ∷ ref.Point b ∷ ref.Point c ∷ []) _
-        (prove-counts s statement.Collinear p r.proves few)
-        (then-point _ a _ _ _ _ _ _ (r.points a first) (then-point _ b _ _ _ _ _ _ (r.points b second)
-          (then-point _ c _ _ _ _ _ _ (r.points c third) (no-more _ _ _))))
-        refl
+    (prove-counts s statement.Collinear p r.proves few)
+    (then-point _ a _ _ _ _ _ _ (r.points a first) (then-point _ b _ _ _ _ _ _ (r.points b second)
+    (then-point _ c _ _ _ _ _ _ (r.points c third) (no-more _ _ _))))
+    refl
 
 parallel-does : (i j p a b c d : ℕ) (s : Scope) → p < MOST_PROVES → a < i → b < i → c < i → d < i → Ready i j p s →
     Does (parallel a b c d) s
-        (deed.Prove statement.Parallel (a ∷ b ∷ c ∷ d ∷ [])) (proved s)
+    (deed.Prove statement.Parallel (a ∷ b ∷ c ∷ d ∷ [])) (proved s)
 unfolding deed_of points_in
 parallel-does i j p a b c d s few first second third fourth r =
     does (parallel a b c d) s (proved s) (proved s) (ref.Point a ∷ ref.Point b ∷ ref.Point c ∷ ref.Point d ∷ []) _
-        (prove-counts s statement.Parallel p r.proves few)
-        (then-point _ a _ _ _ _ _ _ (r.points a first) (then-point _ b _ _ _ _ _ _ (r.points b second)
-          (then-point _ c _ _ _ _ _ _ (r.points c third) (then-point _ d _ _ _ _ _ _ (r.points d fourth) (no-more _ _ _)))))
-        refl
+    (prove-counts s statement.Parallel p r.proves few)
+    (then-point _ a _ _ _ _ _ _ (r.points a first) (then-point _ b _ _ _ _ _ _ (r.points b second)
+    (then-point _ c _ _ _ _ _ _ (r.points c third) (then-point _ d _ _ _ _ _ _ (r.points d fourth) (no-more _ _ _)))))
+    refl
 
 -- ---- each construction
 -- What comes behind the construction of point i is resolved.
@@ -165,7 +165,7 @@ made-grows Midpoint i p a b d line n s cs es few proves first second third r sam
     let done = prove-ready (i + 1) (i + 1) p (with_point i s) (line-skipped (i + 1) i p (with_point i s) made) in
     command-grows (midpoint_of i a b) (collinear a b i ∷ cs) es line n (1 + n) s (with_point i s) _ same (midpoint-does i i p a b s few first second r) (omega arith) (λ es2 same2.
     command-grows (collinear a b i) cs es2 (line + 1) n n (with_point i s) (proved (with_point i s)) _ same2
-      (collinear-does (i + 1) i p a b i (with_point i s) proves (omega (arith, first)) (omega (arith, second)) (omega arith) made) (omega arith) (λ es3 same3.
+    (collinear-does (i + 1) i p a b i (with_point i s) proves (omega (arith, first)) (omega (arith, second)) (omega arith) made) (omega arith) (λ es3 same3.
     behind (line + 1 + 1) es3 (proved (with_point i s)) done same3))
 made-grows Foot i p a b d line n s cs es few proves first second third r same behind =
     let lined = line-ready i i p s few r in
@@ -176,14 +176,14 @@ made-grows Foot i p a b d line n s cs es few proves first second third r same be
     command-grows (line_of i a b) (foot_of i d i ∷ collinear a b i ∷ cs) es line (1 + n) (1 + n) s t _ same (line-does i i p a b s few first second r) (omega arith) (λ es2 same2.
     command-grows (foot_of i d i) (collinear a b i ∷ cs) es2 (line + 1) n (1 + n) t (with_point i t) _ same2 (foot-does i (i + 1) p d i s.lines t few third lined known) (omega arith) (λ es3 same3.
     command-grows (collinear a b i) cs es3 (line + 1 + 1) n n (with_point i t) (proved (with_point i t)) _ same3
-      (collinear-does (i + 1) (i + 1) p a b i (with_point i t) proves (omega (arith, first)) (omega (arith, second)) (omega arith) made) (omega arith) (λ es4 same4.
+    (collinear-does (i + 1) (i + 1) p a b i (with_point i t) proves (omega (arith, first)) (omega (arith, second)) (omega arith) made) (omega arith) (λ es4 same4.
     behind (line + 1 + 1 + 1) es4 (proved (with_point i t)) done same4)))
 made-grows Translate i p a b d line n s cs es few proves first second third r same behind =
     let made = point-ready i i p s few r in
     let done = prove-ready (i + 1) (i + 1) p (with_point i s) (line-skipped (i + 1) i p (with_point i s) made) in
     command-grows (translate_of i a b d) (parallel a b d i ∷ cs) es line n (1 + n) s (with_point i s) _ same (translate-does i i p a b d s few first second third r) (omega arith) (λ es2 same2.
     command-grows (parallel a b d i) cs es2 (line + 1) n n (with_point i s) (proved (with_point i s)) _ same2
-      (parallel-does (i + 1) i p a b d i (with_point i s) proves (omega (arith, first)) (omega (arith, second)) (omega (arith, third)) (omega arith) made) (omega arith) (λ es3 same3.
+    (parallel-does (i + 1) i p a b d i (with_point i s) proves (omega (arith, first)) (omega (arith, second)) (omega (arith, third)) (omega arith) made) (omega arith) (λ es3 same3.
     behind (line + 1 + 1) es3 (proved (with_point i s)) done same3))
 
 -- So many constructions, and no more proves than they have.
@@ -195,8 +195,8 @@ steps-grow (suc n) i p state line s es some few proves r same =
     let d = choice i state in
     let e = chosen-earlier i state some in
     let grown : Grows es s (1 + n) = made-grows d.construction i p d.a d.b d.c line n s (steps_commands n (i + 1) (after_four state)) es
-          (omega (arith, few)) (omega (arith, proves)) e.first e.second e.third r same
-          (λ line rest after ready more. steps-grow n (i + 1) (p + 1) (after_four state) line after rest (omega arith) (omega (arith, few)) (omega (arith, proves)) ready more) in
+    (omega (arith, few)) (omega (arith, proves)) e.first e.second e.third r same
+    (λ line rest after ready more. steps-grow n (i + 1) (p + 1) (after_four state) line after rest (omega arith) (omega (arith, few)) (omega (arith, proves)) ready more) in
     (grown.0, grown.1, grown.2, omega (arith, grown.3))
 
 -- The whole file: at most 19 points.

@@ -31,7 +31,7 @@ choice_by i kind first second third =
 abbrev pub choice : (i state : ℕ) → Choice
 choice i s =
     choice_by i
-        (drawn (next s) 3)
-        (drawn (next (next s)) i)
-        (drawn (next (next (next s))) (i - 1))
-        (drawn (after_four s) (i - 1))
+    (drawn (next s) 3)
+    (drawn (next (next s)) i)
+    (drawn (next (next (next s))) (i - 1))
+    (drawn (after_four s) (i - 1))

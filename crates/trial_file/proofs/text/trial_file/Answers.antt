@@ -14,8 +14,8 @@ one-more text new whole i (suc n) end s t d below count rest is state grown = (
   n,
   omega (arith, count),
   ap (λ x. x ++ steps_text n (i + 1) t) grown ∙ ap (λ x. (text ++ step_text i x) ++ steps_text n (i + 1) t) is
-  ∙ ap (λ x. (text ++ step_text i (choice i s)) ++ steps_text n (i + 1) x) state
-  ∙ append_assoc text (step_text i (choice i s)) (steps_text n (i + 1) (after_four s)) ∙ rest,
+      ∙ ap (λ x. (text ++ step_text i (choice i s)) ++ steps_text n (i + 1) x) state
+      ∙ append_assoc text (step_text i (choice i s)) (steps_text n (i + 1) (after_four s)) ∙ rest,
 )
 
 -- Nothing is left.
