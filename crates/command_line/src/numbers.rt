@@ -14,10 +14,12 @@ pub fn trial_number(word: &str) -> Option<u32>
     let Ok(number) = word.parse::<u32>() else {
         return None;
     };
-    let mut buffer = Buffer::new();
-    if number < TRIALS && buffer.format(number) == word {
-        Some(number)
-    } else {
-        None
+    if number >= TRIALS {
+        return None;
     }
+    let mut buffer = Buffer::new();
+    if buffer.format(number) != word {
+        return None;
+    }
+    Some(number)
 }

@@ -1,21 +1,18 @@
 -- The file of each number is accepted.
-use Rattle.std.proofs.Common.{◌≡◌, ℕ, ◌+◌, ◌*◌, ◌<◌, ◌≤◌, List, [], ◌∷◌, ◌++◌, length, Ok, Result, refl, sym, ap, ◌∙◌, subst, arith, length-append, lit≤, lit<, zero, suc, codes}
+use Rattle.std.proofs.Common.{◌≡◌, ℕ, ◌+◌, ◌*◌, ◌<◌, ◌≤◌, List, length, Ok, Result, refl, sym, ap, ◌∙◌, arith, length-append, lit<, zero, suc}
 use Rattle.gcl_reader.specs.Grammar.{◌>>=◌, file_of}
-use Rattle.gcl_reader.specs.Show.{show_text}
 use Rattle.gcl_reader.proofs.ShownAgain.{shown-is-read}
 use Rattle.gcl_reader.specs.declared.refusal.Refusal.{Refusal}
 use Rattle.gcl_reader.specs.declared.file.Command.{Command}
 use Rattle.gcl_reader.specs.declared.limits.TheConstants.{MOST_BYTES}
 use Rattle.gcl_names.specs.Scope.{nothing_defined}
-use Rattle.gcl_names.specs.Program.{program_of, program_with, resolved}
-use Rattle.gcl_names.specs.declared.program.Program.{Program}
-use Rattle.algebraize.specs.Problem.{problems_of, proves_in}
+use Rattle.gcl_names.specs.Program.{program_with, resolved}
+use Rattle.algebraize.specs.Problem.{proves_in}
 use Rattle.trial_file.specs.Draws.{after_four, choice}
-use Rattle.trial_file.specs.Trial.{name_text, made_by, step_text, steps_text, steps_of, free_points, trial_text}
+use Rattle.trial_file.specs.Trial.{made_by, step_text, steps_text, steps_of, free_points, trial_text}
 use Rattle.trial_file.specs.Accepted.{IsAccepted, TrialsAreAccepted}
 use Rattle.trial_file.specs.declared.choice.Construction.{Construction}
 use Rattle.trial_file.specs.declared.choice.Construction.TheVariants.{Midpoint, Foot, Translate}
-use Rattle.trial_file.specs.declared.choice.Name.TheVariants.{Point, Line}
 use Rattle.trial_file.proofs.Looks.{most, points-are-short, lines-are-short}
 use Rattle.trial_file.proofs.Spelling.{trial_commands, trial-shown, trial-fits, chosen-earlier, few-steps}
 use Rattle.trial_file.proofs.Steps.{Grows, trial-grows}

@@ -1,14 +1,13 @@
 -- A program of few points has few variables, so its proves have their equations.
-use Rattle.std.proofs.Common.{◌≡◌, ℕ, zero, suc, ◌+◌, ◌*◌, ◌≤◌, List, [], ◌∷◌, ◌++◌, length, take, drop, Bool, true, false, cond, Ok, refl, arith, length-append, nat_le, lit≤}
+use Rattle.std.proofs.Common.{◌≡◌, ℕ, zero, suc, ◌+◌, ◌*◌, ◌≤◌, List, [], ◌∷◌, length, take, drop, true, Ok, refl, arith, length-append, nat_le}
 use Rattle.std.proofs.lemmas.Bool.Decides.{nat_tests}
 use Rattle.poly_model.specs.declared.limits.TheConstants.{MOST_VARIABLES}
 use Rattle.gcl_names.specs.declared.program.Act.{Act}
 use Rattle.gcl_names.specs.declared.program.Deed.{Deed}
 use Rattle.gcl_names.specs.declared.program.Deed.TheVariants as deed
-use Rattle.gcl_reader.specs.declared.word.Statement.{Statement}
 use Rattle.algebraize.specs.declared.new_points.NewPoints.{NewPoints}
 use Rattle.algebraize.specs.declared.new_points.NewPoints.TheVariants as new
-use Rattle.algebraize.specs.Layout.{Layout, new_points, with_points, free_point, dependent_point, semi_free_point, layout_from, layout_of, empty}
+use Rattle.algebraize.specs.Layout.{Layout, new_points, with_points, layout_from, layout_of, empty}
 use Rattle.algebraize.specs.Equations.{Equations, equations_of}
 use Rattle.algebraize.specs.Problem.{problem_at, problem_of, problem_of_deed, problem_between, problems_from, acts_before, nothing_asked}
 

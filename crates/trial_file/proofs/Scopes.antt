@@ -1,11 +1,9 @@
 -- What the names of a trial mean, and what its commands' arguments refer to.
-use Rattle.std.proofs.Common.{◌≡◌, ◌≢◌, ℕ, zero, suc, ◌+◌, ◌<◌, ◌≤◌, ℤ, List, [], ◌∷◌, ◌++◌, length, map, Option, Some, None, Bool, true, false, cond, not, ◌&&◌, ◌||◌, Ok, Result, refl, sym, ap, ◌∙◌, subst, arith, inl, inr, length-append, nat_le}
+use Rattle.std.proofs.Common.{◌≡◌, ℕ, ◌+◌, ◌<◌, ◌≤◌, ℤ, List, [], ◌∷◌, ◌++◌, length, map, Option, Some, None, Bool, true, false, cond, not, ◌&&◌, ◌||◌, Ok, refl, sym, ap, ◌∙◌, subst, arith, inl, inr, length-append, nat_le}
 use Rattle.std.proofs.lemmas.Bool.{cases_eq}
 use Rattle.std.proofs.lemmas.Bool.Decides.{nat_tests}
 use Rattle.std.proofs.lemmas.Slice.Eq.{bytes_eq-Decides}
 use Rattle.std.specs.Str.{bytes_eq}
-use Rattle.gcl_reader.specs.Grammar.{◌>>=◌}
-use Rattle.gcl_reader.specs.declared.refusal.Refusal.{Refusal}
 use Rattle.gcl_reader.specs.declared.word.Parameter.{Parameter}
 use Rattle.gcl_reader.specs.declared.word.Parameter.TheVariants as parameter
 use Rattle.gcl_reader.specs.declared.word.Range.{Range}
@@ -21,7 +19,6 @@ use Rattle.gcl_names.specs.declared.meaning.Ref.{Ref}
 use Rattle.gcl_names.specs.declared.meaning.Ref.TheVariants as ref
 use Rattle.gcl_names.specs.declared.scope.Scope.{Scope}
 use Rattle.trial_file.specs.Trial.{name_text}
-use Rattle.trial_file.specs.declared.choice.Name.{Name}
 use Rattle.trial_file.specs.declared.choice.Name.TheVariants.{Point, Line}
 use Rattle.trial_file.proofs.Looks.{most, points-differ, lines-differ, point-no-line, line-no-point}
 

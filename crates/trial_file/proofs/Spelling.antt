@@ -1,5 +1,5 @@
 -- The commands of a trial's file: they fit the table, and the file is how they are spelled.
-use Rattle.std.proofs.Common.{◌≡◌, ℕ, zero, suc, ◌+◌, ◌*◌, ◌%◌, ◌<◌, ◌≤◌, List, [], ◌∷◌, ◌++◌, length, flat_map, ℤ, pos, refl, sym, ap, ◌∙◌, append_assoc, append-nil, length-append, arith, mod-lt, lit<, lit≤, codes}
+use Rattle.std.proofs.Common.{◌≡◌, ℕ, zero, suc, ◌+◌, ◌*◌, ◌%◌, ◌<◌, ◌≤◌, List, [], ◌∷◌, ◌++◌, length, pos, refl, sym, ap, ◌∙◌, append_assoc, append-nil, length-append, arith, mod-lt, lit<, lit≤, codes}
 use Rattle.std.specs.Prelude.{IsTrue}
 use Rattle.std.specs.Fmt.{digits}
 use Rattle.std.specs.List.{AllByRecursion}

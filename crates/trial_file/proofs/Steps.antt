@@ -1,21 +1,18 @@
 -- The names of a trial's file are resolved.
-use Rattle.std.proofs.Common.{◌≡◌, ℕ, zero, suc, ◌+◌, ◌*◌, ◌<◌, ◌≤◌, List, [], ◌∷◌, ◌++◌, length, Option, Some, None, option_map, Bool, true, false, Ok, Result, ℤ, pos, nat_le, refl, sym, ap, arith, lit<, lit≤}
+use Rattle.std.proofs.Common.{◌≡◌, ℕ, zero, suc, ◌+◌, ◌*◌, ◌<◌, ◌≤◌, List, [], ◌∷◌, ◌++◌, length, Some, None, false, Ok, pos, nat_le, refl, arith, lit<, lit≤}
 use Rattle.std.proofs.lemmas.Bool.Decides.{nat_tests}
 use Rattle.gcl_reader.specs.Spelling.{statement_in}
 use Rattle.gcl_reader.specs.Show.{SameOnLines, values_of}
 use Rattle.gcl_reader.specs.Table.{parameters_of}
 use Rattle.gcl_reader.specs.declared.limits.TheConstants.{UNIT}
 use Rattle.gcl_reader.specs.declared.file.Command.{Command}
-use Rattle.gcl_reader.specs.declared.file.What.TheVariants as what
-use Rattle.gcl_reader.specs.declared.word.Parameter.TheVariants as parameter
 use Rattle.gcl_reader.specs.declared.word.Range.TheVariants as range
 use Rattle.gcl_reader.specs.declared.word.Statement.{Statement}
 use Rattle.gcl_reader.specs.declared.word.Statement.TheVariants as statement
-use Rattle.gcl_reader.specs.declared.word.Word.TheVariants as word
 use Rattle.gcl_names.specs.Scope.{nothing_defined, meaning_in}
 use Rattle.gcl_names.specs.Program.{counted, act_with, act_in, acts_in}
 use Rattle.gcl_names.specs.Deed.{deed_of, plain_deed, points_in}
-use Rattle.gcl_names.specs.declared.limits.TheConstants.{MOST_POINTS, MOST_PROVES}
+use Rattle.gcl_names.specs.declared.limits.TheConstants.{MOST_PROVES}
 use Rattle.gcl_names.specs.declared.meaning.Meaning.TheVariants as meaning
 use Rattle.gcl_names.specs.declared.meaning.Ref.{Ref}
 use Rattle.gcl_names.specs.declared.meaning.Ref.TheVariants as ref
@@ -27,7 +24,7 @@ use Rattle.trial_file.specs.Draws.{after_four, choice}
 use Rattle.trial_file.specs.Trial.{name_text, steps_of}
 use Rattle.trial_file.specs.declared.choice.Construction.{Construction}
 use Rattle.trial_file.specs.declared.choice.Construction.TheVariants.{Midpoint, Foot, Translate}
-use Rattle.trial_file.specs.declared.choice.Name.TheVariants.{Point, Line}
+use Rattle.trial_file.specs.declared.choice.Name.TheVariants.{Line}
 use Rattle.trial_file.proofs.Looks.{most}
 use Rattle.trial_file.proofs.Spelling.{midpoint_of, translate_of, line_of, foot_of, collinear, parallel, free_point, commands_by, steps_commands, trial_commands, chosen-earlier, few-steps}
 use Rattle.trial_file.proofs.Scopes.{Ready, Refers, with_point, with_line, nothing-ready, point-ready, line-ready, line-known, line-skipped, prove-ready, no-more, then-point, then-line, then-number, then-new-point, then-new-line}

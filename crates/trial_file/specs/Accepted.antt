@@ -1,5 +1,5 @@
 -- The files of trials are accepted: each is read, its names are resolved, and each of its proves has its equations.
-use Rattle.std.specs.Prelude.{◌≡◌, ℕ, ◌≤◌, ◌<◌, List, length, Ok}
+use Rattle.std.specs.Prelude.{◌≡◌, ℕ, ◌≤◌, List, length, Ok}
 use Rattle.gcl_reader.specs.declared.limits.TheConstants.{MOST_BYTES}
 use Rattle.gcl_names.specs.Program.{program_of}
 use Rattle.gcl_names.specs.declared.program.Program.{Program}

@@ -1,6 +1,6 @@
 -- The file of a number: three free points, and behind them 1 to 16 constructions, each with a statement.
-use Rattle.std.specs.Prelude.{◌≡◌, ℕ, zero, suc, ◌+◌, ◌%◌, List, [], ◌∷◌, ◌++◌, flat_map, codes, decimal, refl}
-use Rattle.trial_file.specs.Draws.{next, after_four, choice}
+use Rattle.std.specs.Prelude.{ℕ, zero, suc, ◌+◌, ◌%◌, List, [], ◌∷◌, ◌++◌, flat_map, codes, decimal}
+use Rattle.trial_file.specs.Draws.{after_four, choice}
 use Rattle.trial_file.specs.declared.choice.Choice.{Choice}
 use Rattle.trial_file.specs.declared.choice.Name.{Name}
 use Rattle.trial_file.specs.declared.choice.Name.TheVariants.{Point, Line}

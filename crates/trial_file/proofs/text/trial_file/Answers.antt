@@ -1,4 +1,4 @@
-use Rattle.std.proofs.Common.{◌≡◌, ℕ, ◌+◌, ◌<◌, ◌≤◌, zero, suc, List, [], ◌++◌, sym, ◌∙◌, ap, append_assoc, append-nil, arith, length}
+use Rattle.std.proofs.Common.{◌≡◌, ℕ, ◌+◌, ◌<◌, ◌≤◌, zero, suc, List, ◌++◌, sym, ◌∙◌, ap, append_assoc, append-nil, arith, length}
 use Rattle.trial_file.specs.Draws.{after_four, choice}
 use Rattle.trial_file.specs.Trial.{free_points, step_text, steps_of, steps_text, trial_text}
 use Rattle.trial_file.specs.declared.choice.Choice.{Choice}
