@@ -1,5 +1,5 @@
 -- Trials: the number that a word tells, and that the file of a number has a log, which is accepted.
-use Rattle.std.proofs.Common.{◌≡◌, ◌<◌, ◌^◌, ℕ, List, Option, None, Some, Result, Ok, Err, Bool, true, false, ◌&&◌, nat_lt, refl, sym, ◌∙◌, ap, arith, lit<}
+use Rattle.std.proofs.Common.{◌≡◌, ◌<◌, ◌≤◌, ◌⊎◌, inl, inr, ◌^◌, ℕ, List, Option, None, Some, Result, Ok, Err, Bool, true, false, ◌&&◌, nat_lt, refl, sym, ◌∙◌, ap, arith, lit<}
 use Rattle.std.specs.Prelude.{if◌then◌else◌, decimal}
 use Rattle.std.specs.Str.{bytes_eq}
 use Rattle.std.specs.Str.Parse.{digits_value}
@@ -19,12 +19,21 @@ use Rattle.log_checker.specs.declared.fault.CheckFault.TheVariants as fault
 use Rattle.log_checker.proofs.Exact.{one_finding}
 use Rattle.trial_file.specs.Accepted.{IsAccepted, TrialsAreAccepted}
 use Rattle.trial_file.specs.Trial.{trial_text}
+use Rattle.desk_io.specs.Causes.{Rose}
+use Rattle.command_line.specs.Answer.{answer_from, text_answer}
+use Rattle.command_line.specs.Contract.{Views, IsRun, IsQuiet, lent}
 use Rattle.command_line.specs.Proving.{log_text}
-use Rattle.command_line.specs.Table.{trial_number}
+use Rattle.command_line.specs.Run.{Ends}
+use Rattle.command_line.specs.Table.{TrialOf, IsAnswer, trial_number}
 use Rattle.command_line.specs.Trials.{trial_of}
 use Rattle.command_line.specs.declared.numbers.TheConstants.{TRIALS}
+use Rattle.command_line.specs.declared.status.Status.{Status}
+use Rattle.command_line.specs.declared.status.Status.TheVariants.{Done, Usage, ReadFault, WriteFault, OutOfMemory}
+use Rattle.command_line.proofs.Dues.{given, due_over}
 use Rattle.command_line.proofs.FileLogs.{IsSure}
 use Rattle.command_line.proofs.Headline.{accepted_text}
+use Rattle.command_line.proofs.Runs.{run_of}
+use Rattle.command_line.proofs.Table.{silent_text, silent_from, proper_text, proper_from}
 
 -- ---- the number of a word
 -- The word is the decimal text of a number.
@@ -69,3 +78,37 @@ program-given n r accepted refused =
 
 pub never-refused : TrialsAreAccepted → (n : ℕ) (r : Refusal) → trial_of n ≡ Err r → ⊥
 never-refused accepted n r refused = program-given n r (accepted n) refused
+
+-- ---- the run
+quiet-out : {S : Type 0} (out new : S) (status : Status) → (status ≡ Done) ⊎ (status ≡ WriteFault) ⊎ (status ≡ OutOfMemory) → (status ≡ OutOfMemory → new ≡ out)
+    → IsQuiet status → new ≡ out
+quiet-out out new status (inl e) untouched quiet = absurd (quiet.0 e)
+quiet-out out new status (inr (inl e)) untouched quiet = absurd (quiet.2 e)
+quiet-out out new status (inr (inr e)) untouched quiet = untouched e
+
+no-usage : (status : Status) → (status ≡ Done) ⊎ (status ≡ WriteFault) ⊎ (status ≡ OutOfMemory) → status ≡ Usage → ⊥
+no-usage status (inl e) f = let h = sym e ∙ f in cc
+no-usage status (inr (inl e)) f = let h = sym e ∙ f in cc
+no-usage status (inr (inr e)) f = let h = sym e ∙ f in cc
+
+no-read_fault : (status : Status) → (status ≡ Done) ⊎ (status ≡ WriteFault) ⊎ (status ≡ OutOfMemory) → status ≡ ReadFault → ⊥
+no-read_fault status (inl e) f = let h = sym e ∙ f in cc
+no-read_fault status (inr (inl e)) f = let h = sym e ∙ f in cc
+no-read_fault status (inr (inr e)) f = let h = sym e ∙ f in cc
+
+-- A call that tells what comes of a number, and has neither desk nor notes, promises what is asked of a run.
+pub trial-runs : {K S N : Type 0} (v : Views K S N) (desk : K) (out new : S) (notes : N) (n : ℕ) (status : Status)
+    → Ends (answer_from text_answer (trial_text n) (trial_of n)) (v.written out) (v.written new) (v.said notes) (v.said notes) status
+    → (status ≡ Done) ⊎ (status ≡ WriteFault) ⊎ (status ≡ OutOfMemory)
+    → (status ≡ WriteFault → Rose (v.out_faults out) (v.out_faults new)) → (status ≡ OutOfMemory → new ≡ out) → v.out_faults out ≤ v.out_faults new
+    → IsRun v (lent desk out notes) (lent desk new notes) (Some (TrialOf n)) status
+trial-runs v desk out new notes n status ends one write_fault untouched later =
+    let held = v.held desk in
+    let rose = Rose (v.desk_faults desk) (v.desk_faults desk) in
+    let answer = answer_from text_answer (trial_text n) (trial_of n) in
+    run_of v (lent desk out notes) (lent desk new notes) (TrialOf n) status
+    (given held rose (IsAnswer (Some (TrialOf n))) answer _ _ _ _ status
+    (due_over held rose (IsAnswer (Some (TrialOf n))) answer (silent_from text_answer (trial_text n) (trial_of n) silent_text)
+    (proper_from text_answer (trial_text n) (trial_of n) proper_text) (λ files e. refl)) ends)
+    (no-usage status one) (λ e. absurd (no-read_fault status one e)) (λ put. inl (write_fault put)) (quiet-out out new status one untouched) (λ e. refl) refl
+    (omega arith, later, omega arith)
