@@ -59,7 +59,7 @@ loop-node-preserved g c =
     let e = expanded c.args.cons.now n p c.in_ok-piece.children x.at.waits c.in_ok-piece.ensures.piece c.in_ok-piece.ensures.children in
     let t = turned c.args.cons.now c.args.root c.loop-node.book c.pop.new.self.items n p c.in_ok-piece.children w e in
     let book = c.in_ok-turn.ensures
-    ∙ ap (λ b. c.loop-node.book ++ event.Take 1 n.path ∷ cond b (event.Split 1 n.path p) (event.Leaf 1 n.path p) ∷ []) c.is_some.ensures in
+    ∙ ap (λ b. c.loop-node.book ++ event.Take 0 n.path ∷ cond b (event.Split 0 n.path p) (event.Leaf 0 n.path p) ∷ []) c.is_some.ensures in
     record {
       turns =
           subst (λ (h : List (Event Piece)). AreTurns c.args.cons.now c.args.root h c.push_children.new.waiting.items) (sym {A = List (Event Piece)} book)
