@@ -16,6 +16,7 @@ man = $(root)/share/man/man1/gclc.1
 bash = $(root)/share/bash-completion/completions/gclc
 zsh = $(root)/share/zsh/site-functions/_gclc
 doc = $(root)/share/doc/gclc
+book = $(addprefix examples/book/,README.md book.tex gclc.sty latexmkrc) $(wildcard examples/book/*.gcl)
 
 help:
 	@sed -n 's/^#     //p' Makefile
@@ -26,11 +27,12 @@ install:
 	install -D -m 644 docs/gclc.1 "$(man)"
 	install -D -m 644 contrib/complete/gclc.bash "$(bash)"
 	install -D -m 644 contrib/complete/_gclc "$(zsh)"
-	install -d "$(doc)/docs/pictures" "$(doc)/docs/trees" "$(doc)/examples"
+	install -d "$(doc)/docs/pictures" "$(doc)/docs/trees" "$(doc)/examples/book"
 	install -m 644 docs/*.md "$(doc)/docs"
 	install -m 644 docs/pictures/*.svg "$(doc)/docs/pictures"
 	install -m 644 docs/trees/*.svg "$(doc)/docs/trees"
 	install -m 644 examples/*.md examples/*.gcl examples/*.log "$(doc)/examples"
+	install -m 644 $(book) "$(doc)/examples/book"
 
 uninstall:
 	rm -f "$(bin)" "$(man)" "$(bash)" "$(zsh)"
