@@ -1,4 +1,4 @@
-# Puts what is built in place, and takes it away again. Nothing is proved or built here: `./gclc svg FILE` does that.
+# Puts what is built in place, and takes it away again. Nothing is proved or built here: `./gclc --build` does that.
 #     make install PREFIX=/usr/local      program, man page, completion, manual and gallery
 #     make uninstall PREFIX=/usr/local
 #     make site SITE=site                 manual, tutorial and gallery as pages
@@ -22,7 +22,7 @@ help:
 	@sed -n 's/^#     //p' Makefile
 
 install:
-	@test -x "$(PROGRAM)" || { echo "make: $(PROGRAM) is not there: ./gclc svg FILE proves and builds it" >&2; exit 1; }
+	@test -x "$(PROGRAM)" || { echo "make: $(PROGRAM) is not there: ./gclc --build proves and builds it" >&2; exit 1; }
 	install -D -m 755 "$(PROGRAM)" "$(bin)"
 	install -D -m 644 docs/gclc.1 "$(man)"
 	install -D -m 644 contrib/complete/gclc.bash "$(bash)"

@@ -1,7 +1,7 @@
 -- Parts of lists, and the product of a part as the sum of those of its halves.
 use Rattle.std.proofs.Common.{◌≡◌, ℕ, ◌+◌, ◌-◌, ◌*◌, ◌<◌, ◌≤◌, zero, suc, refl, List, [], ◌∷◌, ◌++◌, length, take, drop, get_or, sym, ◌∙◌, ap, subst, arith, Bool, true, false}
 use Rattle.std.specs.Prelude.{ℤ, unsigned_abs}
-use Rattle.std.proofs.Math.Nat.{suc-mul, mul-le-mul_right}
+use Rattle.std.proofs.Math.Nat.{suc-mul}
 use Rattle.poly_model.specs.Polynomial.{Polynomial, IsAbove, IsDescending, poly_sum, add_multiple, poly_product}
 use Rattle.poly_model.specs.Standard.{entry_of, polynomial_of, are_bounded}
 use Rattle.poly_model.specs.Bounded.{multiple}

@@ -1,12 +1,12 @@
 -- Products of which no row meets a limit.
-use Rattle.std.proofs.Common.{◌≡◌, ℕ, ◌+◌, ◌*◌, ◌≤◌, zero, suc, refl, List, [], ◌∷◌, length, sym, ◌∙◌, ap, subst, arith, true, false}
-use Rattle.std.specs.Prelude.{ℤ, pos, negsuc, ◌+ℤ◌, ◌*ℤ◌, unsigned_abs, Result, Ok, Err}
+use Rattle.std.proofs.Common.{◌≡◌, ℕ, ◌+◌, ◌*◌, ◌≤◌, zero, suc, refl, List, [], ◌∷◌, length, ◌∙◌, ap, arith, true}
+use Rattle.std.specs.Prelude.{ℤ, pos, negsuc, ◌+ℤ◌, unsigned_abs, Result, Ok, Err}
 use Rattle.std.specs.Cmp.Derive.{both_true}
 use Rattle.std.proofs.lemmas.Bool.{le-leb}
 use Rattle.std.proofs.lemmas.Int.{unsigned_abs-mul, ints}
 use Rattle.std.proofs.Math.Nat.{suc-mul}
 use Rattle.std.specs.declared.cmp.Ordering.TheVariants.{Less, Equal, Greater}
-use Rattle.poly_model.specs.Polynomial.{Polynomial, IsDescending, monomial_cmp, exponents_sum, with_entry, add_entry, poly_sum, poly_product}
+use Rattle.poly_model.specs.Polynomial.{Polynomial, IsDescending, monomial_cmp, with_entry, add_entry, poly_sum, poly_product}
 use Rattle.poly_model.specs.Standard.{are_bounded}
 use Rattle.poly_model.specs.Bounded.{multiple, bounded_row, bounded_rows}
 use Rattle.poly_model.specs.declared.limits.Limit.{Limit}

@@ -20,11 +20,10 @@ use dense::{Block, polynomial};
 use operation::{Operation, answer, division};
 use poly_model::OwnedPoly;
 use std::alloc::Global;
-use std::env;
-use std::fs;
 use std::rt::Files;
 use std::sync::Wait;
 use std::thread::Threads;
+use std::{env, fs};
 use table::Table;
 use term_store::VecStore;
 

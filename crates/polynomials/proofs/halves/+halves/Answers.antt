@@ -116,7 +116,7 @@ halves-second-requires g t c κs within =
     let inside : c.args.from + h + m ≤ length (list_at t1.lists (slot_of c.args.a)) = omega (arith, c.requires.within, ap length kept) in
     let small : sizes_of (part_of xs (c.args.from + h) m) * sizes_of q ≤ MOST_SIZE = omega (arith, parts, c.requires.sizes) in
     let now = subst (λ l. sizes_of (part_of l (c.args.from + h) m) * sizes_of (polynomial_at t1 c.args.b) ≤ MOST_SIZE) (sym kept)
-        (subst (λ p. sizes_of (part_of xs (c.args.from + h) m) * sizes_of p ≤ MOST_SIZE) (sym value) small) in
+    (subst (λ p. sizes_of (part_of xs (c.args.from + h) m) * sizes_of p ≤ MOST_SIZE) (sym value) small) in
     let room : 3 * (m * length q + m) ≤ t1.spare = omega (arith, times, few1, made.spare, c.requires.room) in
     let roomy = subst (λ p. 3 * (m * length p + m) ≤ t1.spare) (sym value) room in
     (less, (within, (results.kept-poly s t1 _ c.args.a made c.requires.a, (results.kept-poly s t1 _ c.args.b made c.requires.b, (some, (inside, (now, roomy)))))))
@@ -382,4 +382,3 @@ returns-clause-value g t c =
     let f2 = g.S.TermStore.state c.free-2.new.self in
     let at = making.makes-swapped-at s t1 f1 f2 _ _ made inner c.free-2.ensures.lists ∙ making.makes-swapped-at t1 u v f1 _ _ made2 sum c.free.ensures.lists in
     ap polynomial_of at ∙ c.in-Some-merge.ensures.value ∙ sym whole
-

@@ -1,11 +1,11 @@
-use Rattle.std.proofs.Common.{◌≡◌, ◌≤◌, ◌+◌, ◌*◌, [], length, sym, ◌∙◌, ap, subst, arith}
+use Rattle.std.proofs.Common.{◌≡◌, ◌≤◌, ◌*◌, [], length, sym, ◌∙◌, ap, subst, arith}
 use Rattle.poly_model.specs.Polynomial.{poly_product}
 use Rattle.poly_model.specs.Standard.{polynomial_of}
 use Rattle.poly_model.specs.declared.limits.TheConstants.{MOST_SIZE, MOST_TERMS}
 use Rattle.term_store.specs.States.{list_at}
 use Rattle.term_store.proofs.Making as making
 use Rattle.polynomials.specs.Held.{polynomial_at, slot_of}
-use Rattle.polynomials.specs.Sizes.{sizes_of, part_of}
+use Rattle.polynomials.specs.Sizes.{sizes_of}
 use Rattle.polynomials.proofs.Steps as steps
 use Rattle.polynomials.proofs.Outcomes as outcomes
 use Rattle.polynomials.proofs.Halving as halving

@@ -1,4 +1,4 @@
-use Rattle.std.proofs.Common.{◌≡◌, ◌≤◌, ◌*◌, length, sym, ◌∙◌, subst, arith}
+use Rattle.std.proofs.Common.{◌≡◌, ◌≤◌, ◌*◌, length, sym, ◌∙◌, subst}
 use Rattle.std.specs.Prelude.{Ok}
 use Rattle.poly_model.specs.Polynomial.{poly_product}
 use Rattle.poly_model.specs.Bounded.{bounded_product}
@@ -35,7 +35,7 @@ returns-then-is_unlimited g c =
     let first = steps.polynomial-length (list_at s.lists (slot_of c.args.a)) in
     let second = steps.polynomial-length (list_at s.lists (slot_of c.args.b)) in
     let terms = subst (λ n. n * length b ≤ MOST_TERMS) (sym first)
-        (subst (λ n. length (list_at s.lists (slot_of c.args.a)) * n ≤ MOST_TERMS) (sym second) (c.is_unlimited.ensures.terms c.if-is_unlimited.true)) in
+    (subst (λ n. length (list_at s.lists (slot_of c.args.a)) * n ≤ MOST_TERMS) (sym second) (c.is_unlimited.ensures.terms c.if-is_unlimited.true)) in
     let whole : bounded_product a b ≡ Ok (poly_product a b) =
     outcomes.product-rows a b c.requires.fit ∙ unlimited MOST_VARIABLES a b wa.descending wb.descending (c.is_unlimited.ensures.sizes c.if-is_unlimited.true) terms in
     outcomes.answers-ok _ _ _ (poly_product a b) (bounded_product a b) whole c.unlimited_product-slot.ensures.made c.unlimited_product-slot.ensures.value

@@ -1,4 +1,4 @@
-use Rattle.std.proofs.Common.{◌≡◌, ◌≤◌, ◌<◌, ◌*◌, ◌^◌, sym, ◌∙◌, subst, arith, lit<}
+use Rattle.std.proofs.Common.{◌≤◌, ◌^◌, subst, arith, lit<}
 use Rattle.std.specs.Prelude.{unsigned_abs, ◌*ℤ◌}
 use Rattle.std.proofs.lemmas.Int.{ints, to_z-of_z, fits_signed_mul, unsigned_abs-mul}
 use Rattle.std.proofs.Math.Nat.{mul-le-mul}
