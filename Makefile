@@ -1,4 +1,4 @@
-# Puts what is built in place, and takes it away again. Nothing is proved or built here: `./gclc svg FILE` does that.
+# Puts what is built in place, and takes it away again. Nothing is proved or built here: `./gclc --build` does that.
 #     make install PREFIX=/usr/local      program, man page, completion, manual and gallery
 #     make uninstall PREFIX=/usr/local
 #     make site SITE=site                 manual, tutorial and gallery as pages
@@ -16,21 +16,23 @@ man = $(root)/share/man/man1/gclc.1
 bash = $(root)/share/bash-completion/completions/gclc
 zsh = $(root)/share/zsh/site-functions/_gclc
 doc = $(root)/share/doc/gclc
+book = $(addprefix examples/book/,README.md book.tex gclc.sty latexmkrc) $(wildcard examples/book/*.gcl)
 
 help:
 	@sed -n 's/^#     //p' Makefile
 
 install:
-	@test -x "$(PROGRAM)" || { echo "make: $(PROGRAM) is not there: ./gclc svg FILE proves and builds it" >&2; exit 1; }
+	@test -x "$(PROGRAM)" || { echo "make: $(PROGRAM) is not there: ./gclc --build proves and builds it" >&2; exit 1; }
 	install -D -m 755 "$(PROGRAM)" "$(bin)"
 	install -D -m 644 docs/gclc.1 "$(man)"
 	install -D -m 644 contrib/complete/gclc.bash "$(bash)"
 	install -D -m 644 contrib/complete/_gclc "$(zsh)"
-	install -d "$(doc)/docs/pictures" "$(doc)/docs/trees" "$(doc)/examples"
+	install -d "$(doc)/docs/pictures" "$(doc)/docs/trees" "$(doc)/examples/book"
 	install -m 644 docs/*.md "$(doc)/docs"
 	install -m 644 docs/pictures/*.svg "$(doc)/docs/pictures"
 	install -m 644 docs/trees/*.svg "$(doc)/docs/trees"
 	install -m 644 examples/*.md examples/*.gcl examples/*.log "$(doc)/examples"
+	install -m 644 $(book) "$(doc)/examples/book"
 
 uninstall:
 	rm -f "$(bin)" "$(man)" "$(bash)" "$(zsh)"
