@@ -55,7 +55,10 @@ fn is_under(verdict: &Verdict) -> bool
 fn is_other(verdict: &Verdict) -> bool
     ensures { result ≡ is_other verdict.now }
 {
-    !is_proved(verdict) && !is_under(verdict)
+    matches!(
+        verdict,
+        Verdict::NotProved { .. } | Verdict::Degenerate(_) | Verdict::Left { .. }
+    )
 }
 
 // The number of proofs whose verdict is proved; the same, under conditions; the same, of all others.
