@@ -1,7 +1,7 @@
 // A statement proved by two workers in four runs, in each of which a gate holds one branch of one worker while the other goes on.
 ghost use Rattle.std.specs.Prelude.{IfOk};
 ghost use Rattle.gcl_names.specs.Sound.{IsSound};
-ghost use Rattle.proof_log.specs.declared.limits.TheConstants.{VERSION};
+ghost use Rattle.proof_steps.specs.declared.version.TheConstants.{VERSION};
 ghost use Rattle.prove_run.specs.Whole.{IsWhole};
 
 use crate::hold::{Hold, Until};
