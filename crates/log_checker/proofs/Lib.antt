@@ -1,9 +1,3 @@
-pub mod Reducing
-mod Stores
-mod Terms
-mod Nodes
-mod Trying
-mod Fitness
 pub mod Inside
 pub mod Fits
 mod Running
@@ -11,8 +5,4 @@ mod Passes
 mod Tellings
 mod Assured
 pub mod Exact
-mod Listing
-mod Dues
-mod Chains
-mod Leaves
-mod Ends
+pub mod Going

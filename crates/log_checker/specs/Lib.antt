@@ -1,12 +1,7 @@
 pub mod Fitting
 pub mod Accepted
 pub mod Answers
-pub mod Stores
 pub mod Amounts
-pub mod Trials
-pub mod Views
-pub mod Lists
-pub mod Turns
 pub mod Gathering
 pub mod Checkers
 pub mod Checked

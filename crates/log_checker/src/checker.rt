@@ -1,20 +1,16 @@
 // The lines of a log, one at a time.
-ghost use Rattle.std.specs.Prelude.{◌≡◌, ◌/◌, ◌∷◌, ◌++◌, [], nat_le, IfOk, OnOk};
+ghost use Rattle.std.specs.Prelude.{◌≡◌, ◌/◌, ◌∷◌, ◌++◌, [], nat_le, IfOk, OnOk, true};
 ghost use Rattle.poly_model.specs.declared.limits.TheConstants.{MOST_FUEL};
 ghost use Rattle.proof_steps.specs.Rules.{size_of};
 ghost use Rattle.verdicts.specs.Tallies.{Parts, no_tally, tally_after};
-ghost use Rattle.log_checker.specs.Checkers.{state_of};
-ghost use Rattle.log_checker.specs.Fitting.{Opening, begin, after, root, is_own_part, where_fits, settled, node_row, node_settled, verdict_row, verdict_settled, inside_row};
-ghost use Rattle.log_checker.specs.Views.{ending_view};
+ghost use Rattle.node_check.specs.Nodes.{IsFueled};
+ghost use Rattle.node_check.specs.Views.{ending_view};
+ghost use Rattle.log_checker.specs.Checkers.{GoesOn, state_of};
+ghost use Rattle.log_checker.specs.Fitting.{Between, Opening, begin, after, root, is_own_part, where_fits, settled, node_row, node_settled, verdict_row, verdict_settled, inside_row};
 
-use crate::arith::is_own_part;
-use crate::children::copies;
-use crate::end::{PieceEnd, end_of};
-use crate::ending::Ending;
-use crate::node::with_fuel;
-use crate::piece::Inside;
+use crate::own::{is_own_part, with_fuel};
 use crate::tally::Tally;
-use crate::within::line_within;
+use node_check::{Ending, Inside, PieceEnd, copies, end_of, piece_line};
 use poly_model::{EXPAND_UNITS, MOST_FUEL, OwnedPoly, Row};
 use proof_log::LogLine;
 use proof_steps::{Node, Path};
@@ -22,6 +18,7 @@ use std::alloc::{AllocError, Global};
 use std::mem;
 use term_store::{TermStore, VecStore};
 use verdicts::Verdict;
+use workbench::open;
 
 /// A log stands at a problem, in the piece of a path, or where no piece is open.
 #[derive(Drop)]
@@ -62,7 +59,8 @@ fn fuel_of_each(proofs: u8) -> u32
 impl LineChecker {
     /// Before the first line. The store is wide, so that its lists are seldom moved.
     pub fn new(alloc: Global) -> Result<LineChecker, AllocError>
-        ensures { IfOk result (λ c. state_of c ≡ begin) }
+        ensures begins { IfOk result (λ c. state_of c ≡ begin) }
+        ensures goes { IfOk result GoesOn }
     {
         let mut store = VecStore::new(alloc)?;
         let Ok(()) = store.reserve(EXPAND_UNITS) else {
@@ -83,28 +81,46 @@ impl LineChecker {
 
     /// Reads the version.
     fn read_version(&mut self, version: u8)
-        ensures { state_of self.new ≡ record (state_of self.old) { version = version } }
+        requires { GoesOn self.old }
+        ensures state { state_of self.new ≡ record (state_of self.old) { version = version } }
+        ensures goes { GoesOn self.new }
     {
         self.version = version;
     }
 
     /// Reads the number of the proofs.
     fn read_proofs(&mut self, proofs: u8)
-        ensures { state_of self.new ≡ record (state_of self.old) { fuel = MOST_FUEL / proofs } }
+        requires { GoesOn self.old }
+        ensures state { state_of self.new ≡ record (state_of self.old) { fuel = MOST_FUEL / proofs } }
+        ensures goes { GoesOn self.new }
     {
         self.fuel = fuel_of_each(proofs);
     }
 
+    /// Leaves the piece that is open, if one is, and gives its lists up.
+    fn leave_part(&mut self)
+        requires { GoesOn self.old }
+        ensures state { state_of self.new ≡ record (state_of self.old) { part = Between } }
+        ensures goes { GoesOn self.new }
+    {
+        if let Part::Within(_, inside) = mem::replace(&mut self.part, Part::Between) {
+            let _ended = end_of(&mut self.store, inside);
+        }
+    }
+
     /// Comes to a problem of which nothing is told yet.
     fn open_problem(&mut self)
-        ensures { state_of self.new ≡ record (state_of self.old) {
+        requires { GoesOn self.old }
+        ensures state { state_of self.new ≡ record (state_of self.old) {
           hyps = [];
           cons = [];
           part = Opening;
           waiting = [];
           tally = no_tally;
         } }
+        ensures goes { GoesOn self.new }
     {
+        self.leave_part();
         self.hyps = Vec::new(self.alloc);
         self.cons = Vec::new(self.alloc);
         self.part = Part::Opening;
@@ -114,11 +130,13 @@ impl LineChecker {
 
     /// Reads a hypothesis, if it fits.
     fn read_hyp(&mut self, p: OwnedPoly) -> Result<bool, AllocError>
-        ensures { IfOk result (λ fits. where_fits (is_own_part p)
+        requires { GoesOn self.old }
+        ensures state { IfOk result (λ fits. where_fits (is_own_part p)
             (record (state_of self.old) { hyps = (state_of self.old).hyps ++ p ∷ [] })
             ≡ where_fits fits (state_of self.new)) }
+        ensures goes { IfOk result (λ fits. fits ≡ true → GoesOn self.new) }
     {
-        if !is_own_part(&mut self.store, &p)? {
+        if !is_own_part(&mut self.store, &p) {
             return Ok(false);
         }
         self.hyps.push(p)?;
@@ -127,11 +145,13 @@ impl LineChecker {
 
     /// Reads a conclusion, if it fits.
     fn read_con(&mut self, p: OwnedPoly) -> Result<bool, AllocError>
-        ensures { IfOk result (λ fits. where_fits (is_own_part p)
+        requires { GoesOn self.old }
+        ensures state { IfOk result (λ fits. where_fits (is_own_part p)
             (record (state_of self.old) { cons = (state_of self.old).cons ++ p ∷ [] })
             ≡ where_fits fits (state_of self.new)) }
+        ensures goes { IfOk result (λ fits. fits ≡ true → GoesOn self.new) }
     {
-        if !is_own_part(&mut self.store, &p)? {
+        if !is_own_part(&mut self.store, &p) {
             return Ok(false);
         }
         self.cons.push(p)?;
@@ -155,11 +175,13 @@ impl LineChecker {
 
     /// Lets the root wait, if it can.
     fn wait_at_root(&mut self) -> Result<bool, AllocError>
-        ensures { IfOk result (λ fits. where_fits
+        requires { GoesOn self.old }
+        ensures state { IfOk result (λ fits. where_fits
             (nat_le (size_of (root (state_of self.old))) self.old.fuel)
             (record (state_of self.old)
             { waiting = root (state_of self.old) ∷ []; tally = no_tally })
             ≡ where_fits fits (state_of self.new)) }
+        ensures goes { IfOk result (λ fits. fits ≡ true → GoesOn self.new) }
     {
         let Some(root) = self.root()? else {
             return Ok(false);
@@ -179,10 +201,14 @@ impl LineChecker {
         minus: Node,
         gain: OwnedPoly,
     ) -> Result<(), AllocError>
-        ensures { OnOk result (state_of self.new ≡ record (state_of self.old) {
+        requires goes { GoesOn self.old }
+        requires plus { IsFueled plus }
+        requires minus { IsFueled minus }
+        ensures state { OnOk result (state_of self.new ≡ record (state_of self.old) {
           waiting = plus ∷ minus ∷ (state_of self.old).waiting;
           tally = tally_after (state_of self.old).tally path.now (Parts gain);
         }) }
+        ensures goes { OnOk result (GoesOn self.new) }
     {
         self.tally.add_split(path, gain)?;
         self.waiting.push(minus)?;
@@ -192,21 +218,27 @@ impl LineChecker {
 
     /// Leaves a leaf.
     fn leave_leaf(&mut self, path: Path, ending: Ending) -> Result<(), AllocError>
-        ensures { OnOk result (state_of self.new ≡ record (state_of self.old) {
+        requires { GoesOn self.old }
+        ensures state { OnOk result (state_of self.new ≡ record (state_of self.old) {
           tally = tally_after (state_of self.old).tally path (ending_view ending);
         }) }
+        ensures goes { OnOk result (GoesOn self.new) }
     {
         self.tally.add_leaf(self.alloc, path, ending)
     }
 
     /// Leaves the piece that is open, if it has ended.
     fn settle(&mut self) -> Result<bool, AllocError>
-        ensures { IfOk result (λ fits. settled (state_of self.old) (state_of self.old).part
+        requires { GoesOn self.old }
+        ensures state { IfOk result (λ fits. settled (state_of self.old) (state_of self.old).part
             ≡ where_fits fits (state_of self.new)) }
+        ensures goes { IfOk result (λ fits. fits ≡ true → GoesOn self.new) }
+        ensures between { IfOk result (λ fits. fits ≡ true
+            → (state_of self.new).part ≡ Between) }
     {
         match mem::replace(&mut self.part, Part::Between) {
             Part::Opening => self.wait_at_root(),
-            Part::Within(path, inside) => match end_of(inside) {
+            Part::Within(path, inside) => match end_of(&mut self.store, inside) {
                 Some(PieceEnd::Parted { plus, minus, gain }) => {
                     self.leave_split(&path, plus, minus, gain)?;
                     Ok(true)
@@ -222,27 +254,38 @@ impl LineChecker {
     }
 
     /// Opens the piece of a path, if that is the path of the node that waits first.
-    fn enter_next(&mut self, path: Path) -> bool
-        ensures { node_row (state_of self.old) path (state_of self.old).waiting
-            ≡ where_fits result (state_of self.new) }
+    fn enter_next(&mut self, path: Path) -> Result<bool, AllocError>
+        requires goes { GoesOn self.old }
+        requires between { (state_of self.old).part ≡ Between }
+        ensures state { IfOk result (λ fits.
+            node_row (state_of self.old) path (state_of self.old).waiting
+            ≡ where_fits fits (state_of self.new)) }
+        ensures goes { IfOk result (λ fits. fits ≡ true → GoesOn self.new) }
     {
         let Some(node) = self.waiting.pop() else {
-            return false;
+            return Ok(false);
         };
         if !path.is(&node.path) {
-            return false;
+            return Ok(false);
         }
-        self.part = Part::Within(path, Inside::At(node));
-        true
+        let bench = open(self.alloc, &mut self.store, &node)?;
+        self.part = Part::Within(path, Inside::At(bench));
+        Ok(true)
     }
 
     /// Reads a line `node`, if it fits.
     fn read_node(&mut self, path: Path) -> Result<bool, AllocError>
-        ensures { IfOk result (λ fits.
+        requires { GoesOn self.old }
+        ensures state { IfOk result (λ fits.
             node_settled path (settled (state_of self.old) (state_of self.old).part)
             ≡ where_fits fits (state_of self.new)) }
+        ensures goes { IfOk result (λ fits. fits ≡ true → GoesOn self.new) }
     {
-        Ok(self.settle()? && self.enter_next(path))
+        if self.settle()? {
+            self.enter_next(path)
+        } else {
+            Ok(false)
+        }
     }
 
     /// No node waits, and the verdict is that of the tally.
@@ -255,22 +298,33 @@ impl LineChecker {
 
     /// Reads a line `verdict`, if it fits.
     fn read_verdict(&mut self, verdict: &Verdict) -> Result<bool, AllocError>
-        ensures { IfOk result (λ fits.
+        requires { GoesOn self.old }
+        ensures state { IfOk result (λ fits.
             verdict_settled verdict.now (settled (state_of self.old) (state_of self.old).part)
             ≡ where_fits fits (state_of self.new)) }
+        ensures goes { IfOk result (λ fits. fits ≡ true → GoesOn self.new) }
     {
         Ok(self.settle()? && self.tells(verdict))
     }
 
     /// Reads a line inside a piece, if it fits.
     fn read_within(&mut self, line: LogLine) -> Result<bool, AllocError>
-        ensures { IfOk result (λ fits. inside_row (state_of self.old) line (state_of self.old).part
+        requires { GoesOn self.old }
+        ensures state { IfOk result (λ fits. inside_row (state_of self.old) line (state_of self.old).part
             ≡ where_fits fits (state_of self.new)) }
+        ensures goes { IfOk result (λ fits. fits ≡ true → GoesOn self.new) }
     {
         let Part::Within(path, inside) = mem::replace(&mut self.part, Part::Between) else {
             return Ok(false);
         };
-        let next = line_within(self.alloc, &mut self.store, &self.cons, inside, line)?;
+        let next = piece_line(
+            self.version,
+            self.alloc,
+            &mut self.store,
+            &self.cons,
+            inside,
+            line,
+        )?;
         let Some(inside) = next else {
             return Ok(false);
         };
@@ -281,8 +335,10 @@ impl LineChecker {
     /// Reads a line, if it fits what stands before it.
     #[tactic(auto, unfolding(crate::specs::Fitting::after))]
     pub fn line(&mut self, line: LogLine) -> Result<bool, AllocError>
-        ensures { IfOk result (λ fits. after (state_of self.old) line
+        requires { GoesOn self.old }
+        ensures state { IfOk result (λ fits. after (state_of self.old) line
             ≡ where_fits fits (state_of self.new)) }
+        ensures goes { IfOk result (λ fits. fits ≡ true → GoesOn self.new) }
     {
         match line {
             LogLine::Head(version) => self.read_version(version),

@@ -1,7 +1,7 @@
 ghost use Rattle.std.specs.Prelude.{◌≡◌, IfOk, OnOk};
 ghost use Rattle.log_checker.specs.Gathering.{nothing, with_verdict, gathered_after, gathered_of};
 
-use crate::children::copies;
+use node_check::copies;
 use poly_model::{OwnedPoly, Row, Vars};
 use proof_log::LogLine;
 use proof_steps::Problem;

@@ -2,29 +2,14 @@
 #![tactic(auto)]
 
 mod against;
-mod arith;
-mod chain;
 mod check;
 mod checker;
 mod checking;
-mod children;
-mod due;
-mod end;
-mod ending;
 mod fault;
 mod gathering;
 mod laws;
-mod leaf;
-mod lists;
-mod node;
-mod open;
-mod piece;
-mod reads;
-mod rows;
-mod rules;
+mod own;
 mod tally;
-mod triangular;
-mod within;
 
 pub use against::check_against;
 pub use check::{check_log, check_text};

@@ -6,10 +6,9 @@ ghost use Rattle.verdicts.specs.Verdicts.{under};
 ghost use Rattle.verdicts.specs.declared.verdict.Verdict.TheVariants as expected;
 ghost use Rattle.log_checker.specs.Checkers.{tally_view};
 ghost use Rattle.log_checker.specs.Fitting.{same_verdict};
-ghost use Rattle.log_checker.specs.Views.{ending_view};
+ghost use Rattle.node_check.specs.Views.{ending_view};
 
-use crate::ending::Ending;
-use crate::open::is_met;
+use node_check::{Ending, is_met};
 use poly_model::{OwnedPoly, Reason};
 use proof_steps::Path;
 use std::alloc::{AllocError, Global};
@@ -116,7 +115,7 @@ fn is_left(verdict: &Verdict, path: &Path, reason: Reason) -> bool
         Verdict::Left {
             path: told,
             reason: why,
-        } => told.is(path) && is_met(Some(*why), reason),
+        } => told.is(path) && is_met(*why, reason),
         Verdict::Proved | Verdict::Under(_) | Verdict::NotProved { .. } | Verdict::Degenerate(_) =>
             { false }
     }

@@ -1,0 +1,133 @@
+-- The rows of lines at a node, by what the rules made.
+use Rattle.std.proofs.Common.{◌≡◌, ℕ, ◌-◌, ◌≤◌, ◌<◌, List, [], ◌∷◌, ◌++◌, length, refl, sym, ◌∙◌, ap, subst, arith, Bool, true, false, ◌&&◌, ◌||◌, map, not}
+use Rattle.std.specs.Prelude.{ℤ, ◌==◌, Option, Some, None}
+use Rattle.std.specs.Ordering.{int_eq}
+use Rattle.std.proofs.lemmas.Bool.{and_parts, or_parts}
+use Rattle.std.proofs.lemmas.List.{length-map}
+use Rattle.poly_model.specs.Polynomial.{Polynomial}
+use Rattle.poly_model.specs.Reduction.{primitive_initial, primitive_tail, reduction_of, same}
+use Rattle.poly_model.specs.declared.limits.Reason.{Reason}
+use Rattle.poly_model.specs.declared.limits.Reason.TheVariants as reason
+use Rattle.poly_model.specs.declared.limits.TheConstants.{MOST_FUEL}
+use Rattle.proof_steps.specs.Numbers.{has, item, replaced}
+use Rattle.proof_steps.specs.Reasons.{same_reason}
+use Rattle.proof_steps.specs.Rules.{attempt_of, cut, is_short, is_valid, made, minus_child, plus_child, reason_of, reduced, size_of, stepped, tells_result}
+use Rattle.proof_steps.specs.declared.piece.Node.{Node}
+use Rattle.proof_steps.specs.declared.step.Attempt.TheVariants as attempt
+use Rattle.proof_steps.specs.declared.step.Step.{Step}
+use Rattle.proof_steps.specs.declared.step.Step.TheVariants as step
+use Rattle.term_store.specs.States.{State}
+use Rattle.workbench.specs.Standing.{Becomes, held_at, node_at}
+use Rattle.workbench.specs.declared.bench.Bench.{Bench}
+use Rattle.workbench.proofs.Putting.{has-low, put-item}
+use Rattle.workbench.proofs.Tried as tried
+use Rattle.node_check.specs.Fitting.{At, Inside, listed, step_row, where_fits}
+use Rattle.tree_laws.proofs.Unfold.{holds-size, not-short, one-short, size-some}
+use Rattle.node_check.specs.Nodes.{AreFueled, IsFueled}
+
+pub limited : (why : Reason) → same_reason (Some why) None ≡ false
+limited reason.Degree = refl
+limited reason.Bound = refl
+limited reason.Terms = refl
+limited reason.Depth = refl
+limited reason.Fuel = refl
+
+pub free : (told : Reason) → same_reason None (Some told) ≡ false
+free reason.Degree = refl
+free reason.Bound = refl
+free reason.Terms = refl
+free reason.Depth = refl
+free reason.Fuel = refl
+
+pub none-both : {A : Type 0} (a b : Bool) (x : A) → b ≡ false → where_fits (a && b) x ≡ None
+none-both true b x e = ap (λ c. where_fits c x) e
+none-both false b x e = refl
+
+-- ---- steps
+abbrev fits_by : {A : Type 0} → (valid stops tells : Bool) → A → Option A
+fits_by valid stops tells x = where_fits ((valid && stops) && tells) x
+
+pub invalid : (version : ℕ) (n : Node) (x : Step) → is_valid version n (attempt_of x) ≡ false → step_row version n x ≡ None
+invalid version n x e = ap (λ v. fits_by v (same_reason (reason_of version n (attempt_of x)) None) (tells_result n x) (listed (At (stepped n x)))) e
+
+pub stopped : (version : ℕ) (n : Node) (x : Step) (why : Reason) → reason_of version n (attempt_of x) ≡ Some why → step_row version n x ≡ None
+stopped version n x why e =
+    ap (λ o. fits_by (is_valid version n (attempt_of x)) (same_reason o None) (tells_result n x) (listed (At (stepped n x)))) e
+    ∙ by (is_valid version n (attempt_of x)) (same_reason (Some why) None) (tells_result n x) (listed (At (stepped n x))) (limited why)
+  where
+    by : (v s t : Bool) (y : Inside) → s ≡ false → fits_by v s t y ≡ None
+    by true true t y e = absurd (let h : true ≡ false = e in cc)
+    by true false t y e = refl
+    by false s t y e = refl
+
+pub untold : (version : ℕ) (n : Node) (x : Step) → tells_result n x ≡ false → step_row version n x ≡ None
+untold version n x e = none-both _ (tells_result n x) (listed (At (stepped n x))) e
+
+pub taken : (version : ℕ) (n : Node) (x : Step) (m : Node) → is_valid version n (attempt_of x) ≡ true → reason_of version n (attempt_of x) ≡ None → tells_result n x ≡ true → m ≡ stepped n x
+    → step_row version n x ≡ Some (listed (At m))
+taken version n x m v r t e = λ i. fits_by (v i) (same_reason (r i) None) (t i) (listed (At (sym e i)))
+
+-- what a reduction found and what the store has are what is told
+pub red-tells : (base u : State) (c : Bench) (n : Node) (g f : ℕ) (found m : ℤ) (r : Polynomial) (b : Bool) → g - 1 < length n.eqs → found ≡ (reduction_of (item n.eqs g) (item n.eqs f)).0 → Becomes base u c (reduced n g f)
+    → (int_eq m found && same r (item (node_at u c).eqs g)) ≡ b → tells_result n (step.Red g f m r) ≡ b
+red-tells base u c n g f found m r b h number be e =
+    (λ i. int_eq m (sym number i) && same r (sym (ap (λ (k : Node). item k.eqs g) be.node ∙ put-item n.eqs g (reduction_of (item n.eqs g) (item n.eqs f)).1 h) i)) ∙ e
+
+pub tail-tells : (base u : State) (c : Bench) (n : Node) (f : ℕ) (r : Polynomial) (b : Bool) → f - 1 < length n.eqs → Becomes base u c (cut n f)
+    → same r (item (node_at u c).eqs f) ≡ b → tells_result n (step.Tail f r) ≡ b
+tail-tells base u c n f r b h be e =
+    ap (same r) (sym (ap (λ (k : Node). item k.eqs f) be.node ∙ put-item n.eqs f (primitive_tail (item n.eqs f)) h)) ∙ e
+
+-- the places of rules that are valid
+pub record Place (n : Node) (i : ℕ) : Type 0 where
+  pub low : 1 ≤ i
+  pub below : i - 1 < length n.eqs
+
+pub red-place : (version : ℕ) (s : State) (b : Bench) (g f : ℕ) → is_valid version (node_at s b) (attempt.Red g f) ≡ true → Place (node_at s b) g
+red-place version s b g f v =
+    let n = node_at s b in
+    let p = (tried.red-places version s b g f v).0 in
+    let l : length (map (held_at s) b.eqs.items) ≡ length b.eqs.items = length-map b.eqs.items (held_at s) in
+    record { low = has-low n.eqs g (and_parts (has n.eqs g) _ (and_parts (has n.eqs g && (has n.eqs f && not (g == f))) _ v).0).0; below = omega (arith, p, l) }
+
+pub tail-place : (version : ℕ) (s : State) (b : Bench) (f : ℕ) → is_valid version (node_at s b) (attempt.Tail f) ≡ true → Place (node_at s b) f
+tail-place version s b f v =
+    let n = node_at s b in
+    let p = tried.tail-place version s b f v in
+    let l : length (map (held_at s) b.eqs.items) ≡ length b.eqs.items = length-map b.eqs.items (held_at s) in
+    record { low = has-low n.eqs f (and_parts (has n.eqs f) _ v).0; below = omega (arith, p, l) }
+
+-- ---- a rule that is stopped
+pub no-stop : (valid : Bool) (o : Option Reason) (told : Reason) → o ≡ None → (valid && same_reason o (Some told)) ≡ false
+no-stop true o told e = ap (λ x. same_reason x (Some told)) e ∙ free told
+no-stop false o told e = refl
+
+pub invalid-stop : (valid : Bool) (o : Option Reason) (told : Reason) → valid ≡ false → (valid && same_reason o (Some told)) ≡ false
+invalid-stop valid o told e = ap (λ v. v && same_reason o (Some told)) e
+
+-- ---- a split
+pub short-parts : (valid : Bool) (stops tells : Bool) (x : Inside) → stops ≡ false → fits_by valid stops tells x ≡ None
+short-parts true true tells x e = absurd (let h : true ≡ false = e in cc)
+short-parts true false tells x e = refl
+short-parts false stops tells x e = refl
+
+pub split-fueled : (version : ℕ) (n : Node) (f : ℕ) (plus minus : Node) → reason_of version n (attempt.Split f) ≡ None → made version n (attempt.Split f) ≡ plus ∷ minus ∷ [] → n.fuel ≤ MOST_FUEL → IsFueled plus × IsFueled minus
+split-fueled version n f plus minus free e most = let all = subst AreFueled e (record { size = first; most = omega (arith, most) }, (record { size = second; most = omega (arith, most, first, some) }, tt)) in (all.0, all.1.0)
+  where
+    J : Polynomial
+    J = primitive_initial (item n.eqs f)
+
+    rest : List Polynomial
+    rest = replaced n.eqs f (primitive_tail (item n.eqs f)) ++ primitive_initial (item n.eqs f) ∷ []
+
+    short : (is_short (plus_child n J n.eqs rest) ≡ false) × ((is_short (minus_child n J rest) || false) ≡ false)
+    short = or_parts (is_short (plus_child n J n.eqs rest)) _ (not-short version n (attempt.Split f) free)
+
+    first : size_of (plus_child n J n.eqs rest) ≤ (plus_child n J n.eqs rest).fuel
+    first = holds-size (plus_child n J n.eqs rest) short.0
+
+    second : size_of (minus_child n J rest) ≤ (minus_child n J rest).fuel
+    second = one-short (minus_child n J rest) short.1
+
+    some : 4 ≤ size_of (plus_child n J n.eqs rest)
+    some = size-some (plus_child n J n.eqs rest)
