@@ -1,4 +1,5 @@
 pub mod Rows
+pub mod Listing
 pub mod Steps
 pub mod Systems
 pub mod Standing
