@@ -14,7 +14,7 @@ use Rattle.proof_log.proofs.Held.{begins_more, refuses_more}
 use Rattle.proof_log.proofs.Logs.{front_is}
 use Rattle.log_checker.specs.Answers.{IsMalformed, IsRejected}
 use Rattle.log_checker.specs.Checked.{Judged}
-use Rattle.log_checker.specs.Checkers.{state_of}
+use Rattle.log_checker.specs.Checkers.{GoesOn, state_of}
 use Rattle.log_checker.specs.Fitting.{State, begin, after, fitted}
 use Rattle.log_checker.specs.Gathering.{Gathered, nothing, gathered, gathered_after, gathered_of}
 use Rattle.log_checker.specs.Pieces.{IsNew, Went, Goes, Misfits, IsBehind, PieceDone}
@@ -38,18 +38,19 @@ pub record Sofar (p : Progress) (ls front left : List LogLine) (q : Progress) (c
   pub went : Went p front q
   pub counts : count ≡ length front
 
-went_none : (p : Progress) → Went p [] p
+went_none : (p : Progress) → GoesOn p.checker → Went p [] p
 unfolding fitted gathered
-went_none p = record { fit = refl; told = refl }
+went_none p g = record { fit = refl; goes = g; told = refl }
 
 went_snoc : (p q r : Progress) (ls : List LogLine) (l : LogLine) → Went p ls q → Goes q l true r → Went p (ls ++ l ∷ []) r
 went_snoc p q r ls l w g = record {
   fit = fitted_snoc (state_of p.checker) (state_of q.checker) (state_of r.checker) ls l w.fit g.0;
+  goes = g.2;
   told = g.1 ∙ ap (λ t. gathered_after t l) w.told ∙ sym (gathered_snoc (gathered_of p.told) ls l);
 }
 
-pub none_checked : (p : Progress) (ls left : List LogLine) → left ≡ ls → Sofar p ls [] left p 0
-none_checked p ls left e = record { parts = sym e; went = went_none p; counts = refl }
+pub none_checked : (p : Progress) (ls left : List LogLine) → GoesOn p.checker → left ≡ ls → Sofar p ls [] left p 0
+none_checked p ls left g e = record { parts = sym e; went = went_none p g; counts = refl }
 
 pub one_checked : (p q r : Progress) (ls front left rest : List LogLine) (n : ℕ) (l : LogLine) → Sofar p ls front left q n → left ≡ l ∷ rest
     → Goes q l true r → Sofar p ls (front ++ l ∷ []) rest r (n + 1)
@@ -186,6 +187,7 @@ piece_whole front added r p q bytes piece seen n all small f h w many e =
       f,
       record {
         fit = fitted_append begin (state_of p.checker) front added h.fit ∙ w.fit;
+        goes = w.goes;
         told = w.told ∙ ap (λ g. gathered g added) h.told ∙ sym (gathered_append nothing front added);
         count = omega (arith, count, many, is, both);
       },
@@ -224,7 +226,7 @@ none_passed bytes r p f e g = record {
   parts = refl;
   front = [];
   fed = subst (λ o. FedWith o [] r []) e f;
-  behind = record { fit = ap Some (sym g.begins); told = g.told; count = refl };
+  behind = record { fit = ap Some (sym g.begins); goes = g.goes; told = g.told; count = refl };
 }
 
 pub all_passed : (bytes rest : List ℕ) (r : LogReader) (p : Progress) (seen : ℕ) (s : Passed bytes rest r p seen) → length rest ≡ 0 → s.done ≡ bytes

@@ -8,7 +8,7 @@ use Rattle.proof_log.specs.declared.reader.LogReader.{LogReader}
 use Rattle.proof_log.specs.declared.reader.LogFault.{LogFault}
 use Rattle.proof_log.specs.declared.reader.LogFault.TheVariants as log
 use Rattle.log_checker.specs.Checked.{Judged}
-use Rattle.log_checker.specs.Checkers.{state_of}
+use Rattle.log_checker.specs.Checkers.{GoesOn, state_of}
 use Rattle.log_checker.specs.Fitting.{State, begin, after, fitted}
 use Rattle.log_checker.specs.Gathering.{nothing, gathered, gathered_after, gathered_of}
 use Rattle.log_checker.specs.declared.checking.Lines.{Lines}
@@ -20,17 +20,19 @@ use Rattle.log_checker.specs.declared.fault.CheckFault.{CheckFault}
 
 pub record IsNew (p : Progress) : Type 0 where
   pub begins : state_of p.checker ≡ begin
+  pub goes : GoesOn p.checker
   pub told : gathered_of p.told ≡ nothing
 
 -- Lines fit behind what is known, and this is known behind them.
 pub record Went (p : Progress) (ls : List LogLine) (q : Progress) : Type 0 where
   pub fit : fitted (state_of p.checker) ls ≡ Some (state_of q.checker)
+  pub goes : GoesOn q.checker
   pub told : gathered_of q.told ≡ gathered (gathered_of p.told) ls
 
 -- A line that fits, with what is known behind it.
 abbrev pub Goes : Progress → LogLine → (fits : Bool) → Progress → Type 0
 Goes p l false q = after (state_of p.checker) l ≡ None
-Goes p l true q = (after (state_of p.checker) l ≡ Some (state_of q.checker)) × (gathered_of q.told ≡ gathered_after (gathered_of p.told) l)
+Goes p l true q = (after (state_of p.checker) l ≡ Some (state_of q.checker)) × (gathered_of q.told ≡ gathered_after (gathered_of p.told) l) × GoesOn q.checker
 
 -- The first of these lines that does not fit has so many before it.
 pub record Misfits (s : State) (ls : List LogLine) (count : ℕ) (word : LineWord) : Type 0 where
@@ -51,6 +53,7 @@ LinesJudged p ls q (lines.Misfit count word) = Misfits (state_of p.checker) ls c
 -- These lines fit, and this is known behind them.
 pub record IsBehind (front : List LogLine) (p : Progress) (seen : ℕ) : Type 0 where
   pub fit : fitted begin front ≡ Some (state_of p.checker)
+  pub goes : GoesOn p.checker
   pub told : gathered_of p.told ≡ gathered nothing front
   pub count : seen ≡ length front
 

@@ -3,6 +3,7 @@ ghost use Rattle.poly_model.specs.declared.limits.TheConstants.{MOST_LOG_BYTES};
 ghost use Rattle.proof_log.specs.Feeding.{IsFed};
 ghost use Rattle.proof_log.specs.declared.line.LogLine.{LogLine};
 ghost use Rattle.log_checker.specs.Checked.{Judged, Tells};
+ghost use Rattle.log_checker.specs.Checkers.{GoesOn};
 ghost use Rattle.log_checker.specs.Pieces.{Goes, IsNew, IsBehind, LinesJudged, PieceDone, fed_of, is_memory};
 
 use crate::checker::LineChecker;
@@ -39,6 +40,7 @@ impl Progress {
     }
 
     fn line(&mut self, line: LogLine) -> Result<bool, AllocError>
+        requires { GoesOn self.old.checker }
         ensures { IfOk result (λ fits. Goes self.old line fits self.new) }
     {
         self.told.add_line(&line)?;
@@ -65,6 +67,7 @@ pub enum Lines {
 }
 
 fn check_lines(progress: &mut Progress, lines: Vec<LogLine>) -> Result<Lines, AllocError>
+    requires { GoesOn progress.old.checker }
     ensures { IfOk result (LinesJudged progress.old lines.items progress.new) }
 {
     let mut count = 0;
@@ -118,7 +121,8 @@ fn check_piece(
     seen: usize,
     piece: &[u8],
 ) -> Result<usize, CheckFault>
-    requires { reader.old.fed + length piece.now ≤ 2 ^ 30 }
+    requires size { reader.old.fed + length piece.now ≤ 2 ^ 30 }
+    requires goes { GoesOn progress.old.checker }
     ensures fed { OnOk result (reader.new.fed ≡ reader.old.fed + length piece.now) }
     ensures done { (bytes : List ℕ) (front : List LogLine) → length bytes ≡ reader.old.fed
         → IsFed front reader.old bytes → IsBehind front progress.old seen

@@ -65,3 +65,6 @@ returns-in-Err-Malformed c =
     let ends = c.in-Err-Malformed.ensures p.done p.front (as_fed p.front l.reader p.done p.fed) in
     subst (IsMalformed n) (all_passed c.args.bytes.now l.rest.now l.reader l.progress l.seen p none)
     (ends_ill p.front l.progress p.done l.seen n (subst (λ f. Finished (Err f) p.front p.done) c.in-Err-Malformed.field-0-is ends) p.behind)
+
+pub check_piece-requires-clause-goes : goal.check_piece-requires-clause-goes
+check_piece-requires-clause-goes c = c.loop-rest.invariant.passed.behind.goes

@@ -4,7 +4,7 @@ use Rattle.log_checker.proofs.Passes.{none_checked, one_checked}
 use Rattle.log_checker.proofs.checking.check_lines.Goals as goal
 
 pub loop-line-init : goal.loop-line-init
-loop-line-init c = record { sofar = none_checked c.args.progress.now c.args.lines.items _ c.into_iter-line-iterator.ensures.into_iter_gives.0 }
+loop-line-init c = record { sofar = none_checked c.args.progress.now c.args.lines.items _ c.requires c.into_iter-line-iterator.ensures.into_iter_gives.0 }
 
 pub loop-line-preserved : goal.loop-line-preserved
 loop-line-preserved c =
@@ -15,3 +15,6 @@ loop-line-preserved c =
       sofar = one_checked c.args.progress.now l.progress c.line.new.self c.args.lines.items l.yielded l.line-iterator.rest.items c.next.new.self.rest.items l.count line l.invariant.sofar
           c.in-Some.ensures.steps.0 goes;
     }
+
+pub line-requires : goal.line-requires
+line-requires c = c.loop-line.invariant.sofar.went.goes
