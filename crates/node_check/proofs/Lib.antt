@@ -3,3 +3,4 @@ pub mod Listing
 pub mod Steps
 pub mod Systems
 pub mod Standing
+pub mod Lines

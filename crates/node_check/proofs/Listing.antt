@@ -4,9 +4,12 @@ use Rattle.std.specs.Prelude.{Option, Some, None, nat_le, if◌then◌else◌}
 use Rattle.std.proofs.lemmas.Bool.Decides.{nat_tests}
 use Rattle.poly_model.specs.Polynomial.{Polynomial}
 use Rattle.poly_model.specs.Reduction.{same}
-use Rattle.node_check.specs.Fitting.{Inside, Work, eq_row, ne_row, where_fits, where_whole}
+use Rattle.node_check.specs.Fitting.{Inside, Work, eq_row, listed, ne_row, where_fits, where_whole}
 use Rattle.node_check.specs.Lists.{are_told, told}
 use Rattle.node_check.proofs.Steps.{drop-step}
+
+abbrev pub record_of : List Polynomial → List Polynomial → Work → Inside
+record_of xs ys w = record { eqs = xs; nes = ys; work = w }
 
 pub at-end : (ps : List Polynomial) (k : ℕ) → nat_le (length ps) k ≡ are_told (drop k ps)
 at-end [] zero = refl
@@ -54,3 +57,15 @@ ne-row p [] (q ∷ qs) w e = elim (same p q) as (λ b. nes_view [] w (where_fits
 pub ne-later : (p : Polynomial) (xs ys : List Polynomial) (w : Work) → are_told xs ≡ false → None ≡ ne_row p xs ys w
 ne-later p [] ys w e = absurd (let h : true ≡ false = e in cc)
 ne-later p (x ∷ xs) ys w e = refl
+
+pub end-is : (ps : List Polynomial) (n k : ℕ) → n ≡ length ps → nat_le n k ≡ are_told (drop k ps)
+end-is ps n k e = ap (λ m. nat_le m k) e ∙ at-end ps k
+
+pub whole-by : (xs ys : List Polynomial) (b : Bool) → (are_told xs && are_told ys) ≡ b → (i : Option Inside) → where_whole xs ys i ≡ (if b then i else None)
+whole-by xs ys b e i = whole xs ys i ∙ ap (λ c. if c then i else None) e
+
+-- lists that are whole
+pub all-listed : (xs ys : List Polynomial) (b : Bool) (w : Work) → ((i : Option Inside) → where_whole xs ys i ≡ (if b then i else None)) → b ≡ true → record_of xs ys w ≡ listed w
+all-listed [] [] b w h t = refl
+all-listed [] (y ∷ ys) b w h t = absurd (let e : ◌≡◌ {A = Option Inside} None (Some (listed w)) = h (Some (listed w)) ∙ ap {B = Option Inside} (λ c. if c then Some (listed w) else None) t in cc)
+all-listed (x ∷ xs) ys b w h t = absurd (let e : ◌≡◌ {A = Option Inside} None (Some (listed w)) = h (Some (listed w)) ∙ ap {B = Option Inside} (λ c. if c then Some (listed w) else None) t in cc)

@@ -1,6 +1,6 @@
 -- The rows of lines at a node, by what the rules made.
 use Rattle.std.proofs.Common.{◌≡◌, ℕ, ◌-◌, ◌≤◌, ◌<◌, List, [], ◌∷◌, ◌++◌, length, refl, sym, ◌∙◌, ap, subst, arith, Bool, true, false, ◌&&◌, ◌||◌, map, not}
-use Rattle.std.specs.Prelude.{ℤ, ◌==◌, Option, Some, None}
+use Rattle.std.specs.Prelude.{ℤ, ◌==◌, if◌then◌else◌, Option, Some, None}
 use Rattle.std.specs.Ordering.{int_eq}
 use Rattle.std.proofs.lemmas.Bool.{and_parts, or_parts}
 use Rattle.std.proofs.lemmas.List.{length-map}
@@ -11,19 +11,25 @@ use Rattle.poly_model.specs.declared.limits.Reason.TheVariants as reason
 use Rattle.poly_model.specs.declared.limits.TheConstants.{MOST_FUEL}
 use Rattle.proof_steps.specs.Numbers.{has, item, replaced}
 use Rattle.proof_steps.specs.Reasons.{same_reason}
-use Rattle.proof_steps.specs.Rules.{attempt_of, cut, is_short, is_valid, made, minus_child, plus_child, reason_of, reduced, size_of, stepped, tells_result}
+use Rattle.proof_steps.specs.Rules.{attempt_of, cut, dropped, is_short, is_valid, made, minus_child, plus_child, reason_of, reduced, size_of, stepped, tells_result}
 use Rattle.proof_steps.specs.declared.piece.Node.{Node}
+use Rattle.proof_steps.specs.declared.step.Attempt.{Attempt}
 use Rattle.proof_steps.specs.declared.step.Attempt.TheVariants as attempt
 use Rattle.proof_steps.specs.declared.step.Step.{Step}
 use Rattle.proof_steps.specs.declared.step.Step.TheVariants as step
 use Rattle.term_store.specs.States.{State}
 use Rattle.workbench.specs.Standing.{Becomes, held_at, node_at}
 use Rattle.workbench.specs.declared.bench.Bench.{Bench}
+use Rattle.workbench.proofs.Benches.{sizes-without}
 use Rattle.workbench.proofs.Putting.{has-low, put-item}
+use Rattle.workbench.proofs.Tests.{not-below}
 use Rattle.workbench.proofs.Tried as tried
-use Rattle.node_check.specs.Fitting.{At, Inside, listed, step_row, where_fits}
+use Rattle.node_check.specs.Fitting.{At, Ended, Inside, listed, open_row, split_row, step_row, where_fits}
+use Rattle.verdicts.specs.Tallies as tallies
+use Rattle.workbench.specs.Splitting.{Parts}
+use Rattle.workbench.specs.declared.splitting.Parting.TheVariants as parting
 use Rattle.tree_laws.proofs.Unfold.{holds-size, not-short, one-short, size-some}
-use Rattle.node_check.specs.Nodes.{AreFueled, IsFueled}
+use Rattle.node_check.specs.Nodes.{AreFueled, IsFueled, StopsBy}
 
 pub limited : (why : Reason) → same_reason (Some why) None ≡ false
 limited reason.Degree = refl
@@ -105,11 +111,59 @@ no-stop false o told e = refl
 pub invalid-stop : (valid : Bool) (o : Option Reason) (told : Reason) → valid ≡ false → (valid && same_reason o (Some told)) ≡ false
 invalid-stop valid o told e = ap (λ v. v && same_reason o (Some told)) e
 
+-- a drop is never stopped
+pub drop-free : (version : ℕ) (n : Node) (i : ℕ) (told : Reason) → size_of n ≤ n.fuel → (is_valid version n (attempt.Drop i) && same_reason (reason_of version n (attempt.Drop i)) (Some told)) ≡ false
+drop-free version n i told enough =
+    elim (is_valid version n (attempt.Drop i)) as (λ b. is_valid version n (attempt.Drop i) ≡ b → (b && same_reason (reason_of version n (attempt.Drop i)) (Some told)) ≡ false) [
+      | false ↦ λ v. refl
+      | true ↦ λ v.
+          let less = sizes-without n.eqs (i - 1) (tried.has-place n.eqs i (and_parts (has n.eqs i) _ v).0) in
+          let long : is_short (dropped n i) ≡ false = not-below (dropped n i).fuel (size_of (dropped n i)) (omega (arith, less, enough)) in
+          ap (λ o. same_reason o (Some told)) (ap (λ b. if b || false then Some reason.Fuel else None) long) ∙ free told
+    ] refl
+
+abbrev open_at : Node → Reason → Inside
+open_at n told = record { eqs = n.eqs; nes = n.nes; work = Ended [] (tallies.Stops told) }
+
+pub open-none : (version : ℕ) (n m : Node) (told : Reason) (what : Attempt) → StopsBy version n what None m → open_row version n told what ≡ None
+open-none version n m told what s = ap (λ b. where_fits b (open_at n told)) (s told)
+
+pub open-stops : (version : ℕ) (n m : Node) (told met : Reason) (what : Attempt) → StopsBy version n what (Some met) m → same_reason (Some met) (Some told) ≡ true
+    → open_row version n told what ≡ Some (record { eqs = m.eqs; nes = m.nes; work = Ended [] (tallies.Stops told) })
+open-stops version n m told met what s e =
+    let reason = ap (λ o. same_reason o (Some told)) s.1 ∙ e in
+    λ i. where_fits (s.0 i && reason i) (open_at (sym s.2 i) told)
+
+pub open-other : (version : ℕ) (n m : Node) (told met : Reason) (what : Attempt) → StopsBy version n what (Some met) m → same_reason (Some met) (Some told) ≡ false → open_row version n told what ≡ None
+open-other version n m told met what s e = none-both (is_valid version n what) _ (open_at n told) (ap (λ o. same_reason o (Some told)) s.1 ∙ e)
+
 -- ---- a split
-pub short-parts : (valid : Bool) (stops tells : Bool) (x : Inside) → stops ≡ false → fits_by valid stops tells x ≡ None
-short-parts true true tells x e = absurd (let h : true ≡ false = e in cc)
-short-parts true false tells x e = refl
-short-parts false stops tells x e = refl
+pub split-invalid : (version : ℕ) (n : Node) (f : ℕ) (told : Polynomial) → is_valid version n (attempt.Split f) ≡ false → split_row version n f told ≡ None
+split-invalid version n f told e =
+    ap (λ v. fits_by v (same_reason (reason_of version n (attempt.Split f)) None) (same told (primitive_initial (item n.eqs f))) (listed (Ended (made version n (attempt.Split f)) (tallies.Parts told)))) e
+
+pub split-stopped : (version : ℕ) (n : Node) (f : ℕ) (told : Polynomial) (why : Reason) → reason_of version n (attempt.Split f) ≡ Some why → split_row version n f told ≡ None
+split-stopped version n f told why e =
+    ap (λ o. fits_by (is_valid version n (attempt.Split f)) (same_reason o None) (same told (primitive_initial (item n.eqs f))) (listed (Ended (made version n (attempt.Split f)) (tallies.Parts told)))) e
+    ∙ by (is_valid version n (attempt.Split f)) (same_reason (Some why) None) (same told (primitive_initial (item n.eqs f))) (limited why)
+  where
+    by : (v s t : Bool) → s ≡ false → fits_by v s t (listed (Ended (made version n (attempt.Split f)) (tallies.Parts told))) ≡ None
+    by true true t e = absurd (let h : true ≡ false = e in cc)
+    by true false t e = refl
+    by false s t e = refl
+
+-- the initial that the split records
+initial-is : (version : ℕ) (n : Node) (f : ℕ) (j : Polynomial) (plus minus : Node) → Parts version n f (parting.Parted j plus minus) → primitive_initial (item n.eqs f) ≡ j
+initial-is version n f j plus minus p = let e = p.1 in cc
+
+pub split-untold : (version : ℕ) (n : Node) (f : ℕ) (told j : Polynomial) (plus minus : Node) → Parts version n f (parting.Parted j plus minus) → same told j ≡ false → split_row version n f told ≡ None
+split-untold version n f told j plus minus p e = none-both _ (same told (primitive_initial (item n.eqs f))) _ (ap (same told) (initial-is version n f j plus minus p) ∙ e)
+
+pub split-told : (version : ℕ) (n : Node) (f : ℕ) (told j : Polynomial) (plus minus : Node) → is_valid version n (attempt.Split f) ≡ true → Parts version n f (parting.Parted j plus minus) → same told j ≡ true
+    → split_row version n f told ≡ Some (listed (Ended (plus ∷ minus ∷ []) (tallies.Parts told)))
+split-told version n f told j plus minus v p e =
+    let t = ap (same told) (initial-is version n f j plus minus p) ∙ e in
+    λ i. fits_by (v i) (same_reason (p.0 i) None) (t i) (listed (Ended (p.2 i) (tallies.Parts told)))
 
 pub split-fueled : (version : ℕ) (n : Node) (f : ℕ) (plus minus : Node) → reason_of version n (attempt.Split f) ≡ None → made version n (attempt.Split f) ≡ plus ∷ minus ∷ [] → n.fuel ≤ MOST_FUEL → IsFueled plus × IsFueled minus
 split-fueled version n f plus minus free e most = let all = subst AreFueled e (record { size = first; most = omega (arith, most) }, (record { size = second; most = omega (arith, most, first, some) }, tt)) in (all.0, all.1.0)

@@ -1,14 +1,15 @@
 -- A piece whose node stands in the store, and what is beneath it.
-use Rattle.std.proofs.Common.{◌≡◌, ◌+◌, ◌≤◌, [], List, ◌++◌, map, refl, sym, ◌∙◌, ap, subst, arith, true}
+use Rattle.std.proofs.Common.{◌≡◌, ℕ, zero, suc, ◌+◌, ◌≤◌, ◌<◌, [], ◌∷◌, List, length, get_or, map, refl, sym, ◌∙◌, ap, subst, arith, true}
+use Rattle.polynomials.specs.declared.poly.Poly.{Poly}
+use Rattle.polynomials.specs.Held.{IsPoly, polynomial_at}
 use Rattle.poly_model.specs.Polynomial.{Polynomial}
-use Rattle.poly_model.specs.Standard.{polynomial_of}
 use Rattle.poly_model.specs.declared.limits.TheConstants.{EXPAND_UNITS, MOST_FUEL}
 use Rattle.proof_steps.specs.Rules.{is_triangular}
 use Rattle.proof_steps.specs.declared.piece.Node.{Node}
 use Rattle.term_store.specs.States.{State}
 use Rattle.term_store.specs.Changes.{Keeps}
 use Rattle.workbench.specs.Owned.{Owns}
-use Rattle.workbench.specs.Standing.{Becomes, Stands, beneath, node_at, slots_of}
+use Rattle.workbench.specs.Standing.{AreHeld, Stands, beneath, node_at, slots_of}
 use Rattle.workbench.specs.declared.bench.Bench.{Bench}
 use Rattle.workbench.proofs.Owning as owning
 use Rattle.workbench.proofs.Benches as benches
@@ -102,3 +103,14 @@ pub follows-from : {E : Type 0} (base other : State) (row other-row : Option fit
 follows-from base other row other-row (Ok None) t k e f = (e ∙ f.0, owning.keeps-then base other t k f.1)
 follows-from base other row other-row (Ok (Some i)) t k e f = (e ∙ f.0, f.1, owning.keeps-then base other (under t i) k f.2)
 follows-from base other row other-row (Err x) t k e f = owning.keeps-then base other t k f
+
+-- ---- a condition at a place
+pub condition-poly : (s : State) (ps : List Poly) (i : ℕ) (q : Poly) → AreHeld s ps → i < length ps → q ≡ get_or ps i q → IsPoly s q
+condition-poly s [] i q h below at = absurd (omega (arith, below))
+condition-poly s (p ∷ ps) zero q h below at = subst (IsPoly s) (sym at) record { live = h.live.0; standard = h.standard.0 }
+condition-poly s (p ∷ ps) (suc i) q h below at = condition-poly s ps i q record { live = h.live.1; standard = h.standard.1 } (omega (arith, below)) at
+
+pub condition-at : (s : State) (ps : List Poly) (i : ℕ) (q : Poly) → i < length ps → q ≡ get_or ps i q → polynomial_at s q ≡ get_or (map (polynomial_at s) ps) i []
+condition-at s [] i q below at = absurd (omega (arith, below))
+condition-at s (p ∷ ps) zero q below at = ap (polynomial_at s) at
+condition-at s (p ∷ ps) (suc i) q below at = condition-at s ps i q (omega (arith, below)) at

@@ -117,6 +117,7 @@ fn place_of_step<S: TermStore>(
 }
 
 /// The chain with a polynomial in place of the conclusion at a place, after the fuel for it.
+#[tactic(auto, using(crate::proofs::Steps::drop_set))]
 fn advanced(chain: Chain, at: usize, r: OwnedPoly) -> Chain
     requires { at < length chain.cons }
     ensures { (n : Node) → chain_work n result ≡ Chaining n.eqs (suc at)
@@ -165,7 +166,7 @@ fn proved_line<S: TermStore>(s: &mut S, bench: &Bench, chain: &Chain) -> ChainTu
     match next_due(s, bench, chain) {
         Due::AllZero => ChainTurn::Ended(Ending::Proves),
         Due::Left(_) => ChainTurn::Misfit,
-        Due::Reduce(_, p, _) => {
+        Due::Reduce(_at, p, _divisor) => {
             give_up(s, p);
             ChainTurn::Misfit
         }
@@ -198,7 +199,7 @@ fn remainder_line<S: TermStore>(
             let r = chain.cons.as_slice()[at].copy(alloc)?;
             Ok(ChainTurn::Ended(Ending::Remains { k: k as usize, r }))
         }
-        Due::Reduce(_, p, _) => {
+        Due::Reduce(_at, p, _divisor) => {
             give_up(s, p);
             Ok(ChainTurn::Misfit)
         }

@@ -83,11 +83,13 @@ fn eq_line<S: TermStore>(s: &S, bench: &Bench, listed: Listed, p: &OwnedPoly) ->
         ≡ eq_row p.now (drop listed.eqs (node_at (S.state s.now) bench.now).eqs)
         (drop listed.nes (node_at (S.state s.now) bench.now).nes) w }
 {
-    let eqs = next_equation(s, bench, listed.eqs, p)?;
-    Some(Listed {
-        eqs,
-        nes: listed.nes,
-    })
+    match next_equation(s, bench, listed.eqs, p) {
+        None => None,
+        Some(eqs) => Some(Listed {
+            eqs,
+            nes: listed.nes,
+        }),
+    }
 }
 
 /// What is listed behind a line `ne`, if it fits.
@@ -100,11 +102,13 @@ fn ne_line<S: TermStore>(s: &S, bench: &Bench, listed: Listed, p: &OwnedPoly) ->
     if !has_equations(s, bench, listed) {
         return None;
     }
-    let nes = next_condition(s, bench, listed.nes, p)?;
-    Some(Listed {
-        eqs: listed.eqs,
-        nes,
-    })
+    match next_condition(s, bench, listed.nes, p) {
+        None => None,
+        Some(nes) => Some(Listed {
+            eqs: listed.eqs,
+            nes,
+        }),
+    }
 }
 
 /// What is listed behind a line that tells the next polynomial of a leaf, if it does.

@@ -1,0 +1,36 @@
+-- The lines behind the end of a leaf.
+use Rattle.std.proofs.Common.{◌≡◌, ℕ, List, refl}
+use Rattle.std.specs.Prelude.{None}
+use Rattle.poly_model.specs.Polynomial.{Polynomial}
+use Rattle.proof_steps.specs.declared.piece.Node.{Node}
+use Rattle.verdicts.specs.Tallies.{Ending}
+use Rattle.proof_log.specs.declared.line.LogLine.{LogLine}
+use Rattle.proof_log.specs.declared.line.LogLine.TheVariants as line
+use Rattle.node_check.specs.Fitting.{Ended, in_piece, listed}
+
+-- nothing follows the end of a leaf
+pub ended-none : (version : ℕ) (cons : List Polynomial) (ms : List Node) (e : Ending) (l : LogLine) → in_piece version cons (listed (Ended ms e)) l ≡ None
+unfolding in_piece
+ended-none version cons ms e (line.Drop j) = refl
+ended-none version cons ms e (line.Red g f m r) = refl
+ended-none version cons ms e (line.Tail f r) = refl
+ended-none version cons ms e (line.Split f initial) = refl
+ended-none version cons ms e (line.Close j) = refl
+ended-none version cons ms e (line.Clash j k) = refl
+ended-none version cons ms e line.System = refl
+ended-none version cons ms e (line.Open reason what) = refl
+ended-none version cons ms e (line.Chain c) = refl
+ended-none version cons ms e line.Proved = refl
+ended-none version cons ms e (line.Remainder k) = refl
+ended-none version cons ms e (line.Unreduced k reason f) = refl
+ended-none version cons ms e (line.Eq p) = refl
+ended-none version cons ms e (line.Ne p) = refl
+ended-none version cons ms e (line.Head v) = refl
+ended-none version cons ms e (line.Proves n) = refl
+ended-none version cons ms e (line.Prove k) = refl
+ended-none version cons ms e (line.Vars names) = refl
+ended-none version cons ms e (line.Hyp p) = refl
+ended-none version cons ms e (line.Con p) = refl
+ended-none version cons ms e (line.Node path) = refl
+ended-none version cons ms e (line.Verdict v) = refl
+ended-none version cons ms e line.End = refl
