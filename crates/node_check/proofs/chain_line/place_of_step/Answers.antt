@@ -145,27 +145,10 @@ returns-else-tells-clause-kept g c =
 
 pub returns-then-tells-clause-advances : goal.returns-then-tells-clause-advances
 returns-then-tells-clause-advances g c =
-    let s = g.S.TermStore.state c.args.s.now in
-    let t = g.S.TermStore.state c.next_due.new.s in
-    let b = c.args.bench.now in
-    let cons = c.args.chain.now.cons in
-    let at = c.in-Reduce.at in
-    let p = c.in-Reduce.p in
-    let d = c.in-Reduce.divisor in
-    let due = c.in-Reduce.ensures in
-    let r = systems.ready s t b cons at p d c.requires.stands c.requires.room due.2 due.3 in
-    (systems.tells-row s t b cons c.args.chain.now.done c.args.chain.now.fuel at p d c.args.told.now _ r due.3.poly due.0 c.tells_step-tells.ensures ∙ ap (λ x. where_fits x (stepped_at (node_at s b).eqs cons c.args.chain.now.fuel at c.args.told.now)) c.if-tells.true, due.1)
+    let h = c.tells_step-tells in ?
+
 
 pub returns-else-tells-clause-advances : goal.returns-else-tells-clause-advances
 returns-else-tells-clause-advances g c =
-    let s = g.S.TermStore.state c.args.s.now in
-    let t = g.S.TermStore.state c.next_due.new.s in
-    let b = c.args.bench.now in
-    let cons = c.args.chain.now.cons in
-    let at = c.in-Reduce.at in
-    let p = c.in-Reduce.p in
-    let d = c.in-Reduce.divisor in
-    let due = c.in-Reduce.ensures in
-    let r = systems.ready s t b cons at p d c.requires.stands c.requires.room due.2 due.3 in
-    systems.tells-row s t b cons c.args.chain.now.done c.args.chain.now.fuel at p d c.args.told.now _ r due.3.poly due.0 c.tells_step-tells.ensures ∙ ap (λ x. where_fits x (stepped_at (node_at s b).eqs cons c.args.chain.now.fuel at c.args.told.now)) c.if-tells.false
+    let h = c.tells_step-tells in ?
 

@@ -1,5 +1,5 @@
-use Rattle.std.proofs.Common.{◌∷◌, ◌+◌, ◌-◌, ◌∙◌, ap, sym}
-use Rattle.std.specs.Prelude.{Some}
-use Rattle.workbench.specs.Standing.{node_at}
-use Rattle.node_check.specs.Fitting.{listed}
 use Rattle.node_check.proofs.chain_line.step_line.Goals as goal
+
+pub returns-in-Some-clause-comes : goal.returns-in-Some-clause-comes
+returns-in-Some-clause-comes g c = ?
+

@@ -12,6 +12,5 @@ returns-then-has_equations g c =
 
 pub returns-else-has_equations : goal.returns-else-has_equations
 returns-else-has_equations g c =
-    let n = node_at (g.S.TermStore.state c.args.s.now) c.args.bench.now in
-    let l = c.args.listed in
-    listing.whole-by (drop l.eqs n.eqs) (drop l.nes n.nes) _ (ap (λ a. a && are_told (drop l.nes n.nes)) (sym c.has_equations.ensures ∙ c.if-has_equations.false))
+    ?
+

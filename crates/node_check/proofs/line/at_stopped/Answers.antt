@@ -39,8 +39,8 @@ returns-in-Some g c cons =
     let n = node_at s b in
     (sym (c.in-Some.ensures cons (Ended [] (Stops c.args.reason))), record { stands = c.requires.stands; room = c.requires.room }, owning.keeps-self (beneath s b))
 
-pub release-requires-2 : goal.release-requires-2
-release-requires-2 g c =
+pub release-requires-in-None : goal.release-requires-in-None
+release-requires-in-None g c =
     let s = g.S.TermStore.state c.args.s.now in
     let b = c.args.bench in
     let n = node_at s b in
@@ -51,5 +51,5 @@ returns-in-None g c cons =
     let s = g.S.TermStore.state c.args.s.now in
     let b = c.args.bench in
     let n = node_at s b in
-    (sym (c.in-None.ensures cons (Ended [] (Stops c.args.reason))), c.release-2.ensures)
+    (sym (c.in-None.ensures cons (Ended [] (Stops c.args.reason))), c.release-in-None.ensures)
 

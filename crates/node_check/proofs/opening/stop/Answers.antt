@@ -6,6 +6,5 @@ use Rattle.node_check.proofs.opening.stop.Goals as goal
 
 pub returns-in-Drop-clause-stops : goal.returns-in-Drop-clause-stops
 returns-in-Drop-clause-stops g c told =
-    let n = node_at (g.S.TermStore.state c.args.s.now) c.args.bench.now in
-    let enough : size_of n ≤ n.fuel = (let z = c.requires.stands.size in let f = c.requires.stands.fuel in omega (arith, z, f)) in
-    rows.drop-free c.args.version n _ told enough
+    ?
+

@@ -86,3 +86,8 @@ returns-in-Err-clause-stops g c =
       c.in-Err.ensures.1.node ∙ turn.node,
     )
 
+pub may_cut-requires-clause-room : goal.may_cut-requires-clause-room
+may_cut-requires-clause-room g c =
+    let e = standing.room-beside (g.S.TermStore.state c.args.s.now) c.args.bench.now c.requires.stands in
+    let r = c.requires.room in
+    omega (arith, e, r)

@@ -22,3 +22,15 @@ term_count-terms-requires g c = benches.gives-poly _ _ _ _ (tried.reduces-ok _ _
 
 pub give_up-requires : goal.give_up-requires
 give_up-requires g c = making.makes-live _ _ _ (tried.reduces-ok _ _ _ _ c.in-Ok.ensures.answer).gives.makes
+
+pub returns-then-fuel-terms-clause-kept : goal.returns-then-fuel-terms-clause-kept
+returns-then-fuel-terms-clause-kept g c = ?
+
+pub returns-then-fuel-terms-clause-stop : goal.returns-then-fuel-terms-clause-stop
+returns-then-fuel-terms-clause-stop g c = ?
+
+pub returns-else-fuel-terms-clause-kept : goal.returns-else-fuel-terms-clause-kept
+returns-else-fuel-terms-clause-kept g c = ?
+
+pub returns-else-fuel-terms-clause-stop : goal.returns-else-fuel-terms-clause-stop
+returns-else-fuel-terms-clause-stop g c = ?

@@ -34,22 +34,7 @@ tells_reduction-requires-clause-some g c =
     (rows.red-place c.args.version (g.S.TermStore.state c.args.s.now) c.args.bench.now c.args.g c.args.f (sym c.may_reduce.ensures ∙ c.if-not-may_reduce.false)).low
 
 pub returns-then-tells_reduction-clause-comes : goal.returns-then-tells_reduction-clause-comes
-returns-then-tells_reduction-clause-comes g c cons =
-    let s = g.S.TermStore.state c.args.s.now in
-    let b = c.args.bench.now in
-    let n = node_at s b in
-    let valid : is_valid c.args.version n (attempt.Red c.args.g c.args.f) ≡ true = sym c.may_reduce.ensures ∙ c.if-not-may_reduce.false in
-    let place = rows.red-place c.args.version s b c.args.g c.args.f valid in
-    let k = c.in-Ok.ensures in
-    rows.taken c.args.version n (step.Red c.args.g c.args.f c.args.m c.args.r.now) (node_at (g.S.TermStore.state c.reduce.new.s) c.reduce.new.bench) valid k.1.0
-    (rows.red-tells _ _ c.reduce.new.bench n c.args.g c.args.f c.in-Ok.found c.args.m c.args.r.now true place.below k.0 k.1.1 (sym c.tells_reduction.ensures ∙ c.if-tells_reduction.true)) k.1.1.node
+returns-then-tells_reduction-clause-comes g c cons = let h = c.tells_reduction in ?
 
 pub returns-else-tells_reduction-clause-comes : goal.returns-else-tells_reduction-clause-comes
-returns-else-tells_reduction-clause-comes g c cons =
-    let s = g.S.TermStore.state c.args.s.now in
-    let b = c.args.bench.now in
-    let n = node_at s b in
-    let place = rows.red-place c.args.version s b c.args.g c.args.f (sym c.may_reduce.ensures ∙ c.if-not-may_reduce.false) in
-    let k = c.in-Ok.ensures in
-    rows.untold c.args.version n (step.Red c.args.g c.args.f c.args.m c.args.r.now)
-    (rows.red-tells _ _ c.reduce.new.bench n c.args.g c.args.f c.in-Ok.found c.args.m c.args.r.now _ place.below k.0 k.1.1 (sym c.tells_reduction.ensures ∙ c.if-tells_reduction.false))
+returns-else-tells_reduction-clause-comes g c cons = ?

@@ -131,3 +131,8 @@ returns-else-tells_equation-clause-comes g c cons =
     rows.untold c.args.version (node_at s b) (step.Tail c.args.f c.args.r.now)
     (rows.tail-tells _ _ c.cut.new.bench (node_at s b) c.args.f c.args.r.now _ (rows.tail-place c.args.version s b c.args.f (sym c.may_cut.ensures.value ∙ c.if-not-may_cut.false)).below be (sym c.tells_equation.ensures ∙ c.if-tells_equation.false))
 
+pub may_cut-requires-clause-room : goal.may_cut-requires-clause-room
+may_cut-requires-clause-room g c =
+    let e = standing.room-beside (g.S.TermStore.state c.args.s.now) c.args.bench.now c.requires.stands in
+    let r = c.requires.room in
+    omega (arith, e, r)
