@@ -20,6 +20,8 @@ pub mod Within
 pub mod Reductions
 pub mod Standards
 pub mod Division
+pub mod Powers
+pub mod PowersWithin
 -- how values are held
 pub mod Places
 pub mod Same

@@ -10,7 +10,7 @@ use Rattle.poly_model.specs.Content.{primitive_part, entries_divided, begins_neg
 use Rattle.poly_model.specs.Reduction.{degree_at, coefficient_at, without_degree, shifted, main_place, main_degree, initial_of, factor_of, cross_difference, reduction_of}
 
 -- The monomial has none but the first n variables.
-abbrev are_over : ℕ → List ℕ → Bool
+abbrev pub are_over : ℕ → List ℕ → Bool
 are_over n es = list_all (λ e. nat_eq e 0) (drop n es)
 
 over-sum : (n : ℕ) (es fs : List ℕ) → are_over n es ≡ true → are_over n fs ≡ true → are_over n (exponents_sum es fs) ≡ true
@@ -80,13 +80,13 @@ over-cleared zero (suc i) (e ∷ es) a =
 over-cleared (suc n) zero (e ∷ es) a = a
 over-cleared (suc n) (suc i) (e ∷ es) a = over-cleared n i es a
 
-over-set : (n i k : ℕ) (es : List ℕ) → i < n → are_over n es ≡ true → are_over n (set es i k) ≡ true
+pub over-set : (n i k : ℕ) (es : List ℕ) → i < n → are_over n es ≡ true → are_over n (set es i k) ≡ true
 over-set zero i k es below a = absurd (omega (arith, below))
 over-set (suc n) i k [] below a = a
 over-set (suc n) zero k (e ∷ es) below a = a
 over-set (suc n) (suc i) k (e ∷ es) below a = over-set n i k es (omega (arith, below)) a
 
-none-at : (n i : ℕ) (es : List ℕ) → n ≤ i → are_over n es ≡ true → ◌≡◌ {A = ℕ} (get_or es i 0) 0
+pub none-at : (n i : ℕ) (es : List ℕ) → n ≤ i → are_over n es ≡ true → ◌≡◌ {A = ℕ} (get_or es i 0) 0
 none-at n i [] le a = refl
 none-at zero zero (e ∷ es) le a = eqb-true e 0 (and_parts (nat_eq e 0) (are_over 0 es) a).0
 none-at zero (suc i) (e ∷ es) le a = none-at zero i es (omega arith) (and_parts (nat_eq e 0) (are_over 0 es) a).1

@@ -14,7 +14,7 @@ use Rattle.poly_model.specs.Reduction.{coefficient_at, without_degree, shifted}
 nat_cmp-self : (e : ℕ) → nat_cmp e e ≡ Equal
 nat_cmp-self e = sym (nat_cmp_is e e Equal refl)
 
-nat_cmp-plus : (x y k : ℕ) → nat_cmp (x + k) (y + k) ≡ nat_cmp x y
+pub nat_cmp-plus : (x y k : ℕ) → nat_cmp (x + k) (y + k) ≡ nat_cmp x y
 nat_cmp-plus x y k =
     elim (nat_cmp x y) as (λ r. nat_cmp x y ≡ r → nat_cmp (x + k) (y + k) ≡ r) [
       | Less ↦ λ p. sym (nat_cmp_is (x + k) (y + k) Less (let l : x < y = ranked x y Less (sym p) in omega (arith, l)))

@@ -20,7 +20,7 @@ use Rattle.poly_model.proofs.Parts.{descending-part, descending-without, descend
 use Rattle.poly_model.proofs.Reductions.{then-is, ok-is}
 
 -- ---- parts
-set-low : (es : List ℕ) (i k : ℕ) → are_low es ≡ true → k ≤ MOST_DEGREE → are_low (set es i k) ≡ true
+pub set-low : (es : List ℕ) (i k : ℕ) → are_low es ≡ true → k ≤ MOST_DEGREE → are_low (set es i k) ≡ true
 set-low [] i k l h = refl
 set-low (e ∷ es) zero k l h = both_true (le-leb k MOST_DEGREE h) ((and_parts (nat_le e MOST_DEGREE) _ l).1)
 set-low (e ∷ es) (suc i) k l h = both_true ((and_parts (nat_le e MOST_DEGREE) (are_low es) l).0) (set-low es i k ((and_parts (nat_le e MOST_DEGREE) _ l).1) h)

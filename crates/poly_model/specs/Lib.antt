@@ -7,6 +7,7 @@ pub mod Standard
 pub mod Reduction
 pub mod Bounded
 pub mod Division
+pub mod Powers
 pub mod Reasons
 pub mod Names
 -- what the ghost members of the types cite of laws: a type may cite its own crate's specs alone

@@ -3,7 +3,8 @@ ghost use Rattle.poly_model.specs.Domain.{integer_in, integers};
 ghost use Rattle.poly_model.specs.Polynomial.{Polynomial, IsDescending, at_monomial, sum_over, coefficient_of, exponents_sum, poly_sum, poly_difference, poly_product, poly_constant, poly_variable, poly_scaled, is_over, power, value_at};
 ghost use Rattle.poly_model.specs.Content.{coefficients_gcd, content, primitive_part};
 ghost use Rattle.poly_model.specs.Standard.{is_standard};
-ghost use Rattle.poly_model.specs.Reduction.{class_of, is_constant, number_of, coefficient_at, without_degree, shifted, initial_of, cross_difference, reduction_of};
+ghost use Rattle.poly_model.specs.Reduction.{class_of, is_constant, number_of, coefficient_at, without_degree, shifted, initial_of, cross_difference, reduction_of, main_place};
+ghost use Rattle.poly_model.specs.Powers.{low_at, stripped, without_variables, has_factor};
 ghost use Rattle.poly_model.specs.Bounded.{bounded_sum, bounded_difference, bounded_product, bounded_shift, bounded_reduction};
 ghost use Rattle.poly_model.specs.Division.{division_of, IsDivision};
 ghost use Rattle.poly_model.specs.Zeros.{AllZero, NoneZero, IsZero};
@@ -95,6 +96,25 @@ pub fn parts_make_the_polynomial<D: Domain>(_domain: &D)
         D.operations.one) k) }
     ensures constant { (p : Polynomial) (point : List D.Member) → IsTrue (is_constant p)
         → value_at D.operations p point ≡ integer_in D.operations (number_of p) }
+{}
+
+/// A polynomial is what is left when the greatest power of a variable that divides each term is divided out, times that
+/// power; where q has one term and is not zero, dividing out its variables keeps the zeros.
+pub fn powers_are_divided_out<D: Domain>(_domain: &D)
+    ensures power { (i : ℕ) (p : Polynomial) (point : List D.Member)
+        → value_at D.operations p point
+        ≡ D.operations.mul (value_at D.operations (stripped i p) point)
+        (power D.operations (get_or point i D.operations.one) (low_at i p)) }
+    ensures variables { (q p : Polynomial) (point : List D.Member)
+        → value_at D.operations q point ≢ D.operations.zero
+        → value_at D.operations p point ≡ D.operations.zero
+        ↔ value_at D.operations (without_variables q p) point ≡ D.operations.zero }
+    ensures variable { (p v : Polynomial) (point : List D.Member) → IsTrue (has_factor p v)
+        → value_at D.operations v point ≡ get_or point (main_place v) D.operations.one }
+    ensures standard { (i : ℕ) (p : Polynomial) → IsTrue (is_standard p) → IsTrue (is_standard
+        (stripped i p)) }
+    ensures over { (n : ℕ) (q p : Polynomial) → IsTrue (is_over n p) → IsTrue (is_over n
+        (without_variables q p)) }
 {}
 
 /// A class tells which variables occur, and operations bring in no others.

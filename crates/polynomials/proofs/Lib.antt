@@ -6,3 +6,5 @@ pub mod Changing
 pub mod PieceLaws
 pub mod Reading
 pub mod Results
+pub mod Unlimited
+pub mod Words

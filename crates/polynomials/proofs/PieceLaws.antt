@@ -1,5 +1,5 @@
 -- Lists that are copied with a change are the polynomials that the definitions give.
-use Rattle.std.proofs.Common.{◌≡◌, ℕ, ◌+◌, ◌<◌, ◌≤◌, refl, List, [], ◌∷◌, ◌++◌, length, get_or, set, sym, ◌∙◌, ap, subst, arith, Bool, true, false, cond, nat_lt}
+use Rattle.std.proofs.Common.{◌≡◌, ℕ, ◌+◌, ◌-◌, ◌<◌, ◌≤◌, refl, List, [], ◌∷◌, ◌++◌, length, get_or, set, sym, ◌∙◌, ap, subst, arith, Bool, true, false, cond, nat_lt}
 use Rattle.std.specs.Prelude.{◌==◌, neg_ℤ}
 use Rattle.std.specs.List.{list_all}
 use Rattle.std.specs.Cmp.Derive.{both_true}
@@ -10,7 +10,9 @@ use Rattle.poly_model.specs.Content.{entries_divided, signed_by, quotient_of}
 use Rattle.poly_model.specs.Standard.{is_bounded, are_bounded}
 use Rattle.poly_model.specs.Reduction.{degree_at, coefficient_at, without_degree, shifted}
 use Rattle.poly_model.specs.declared.limits.TheConstants.{MOST_VARIABLES, MOST_DEGREE}
-use Rattle.polynomials.specs.Pieces.{pieces_of, negated, unchanged, raised, is_raisable, cofactor, other_power, has_place, divided, is_divisible}
+use Rattle.poly_model.specs.Powers.{lowered}
+use Rattle.poly_model.proofs.Powers.{AllReach}
+use Rattle.polynomials.specs.Pieces.{pieces_of, negated, unchanged, raised, is_raisable, lowered_entry, is_lowerable, cofactor, other_power, has_place, divided, is_divisible}
 
 pub pieces-unchanged : (p : Polynomial) → pieces_of unchanged p ≡ p
 pieces-unchanged [] = refl
@@ -23,6 +25,10 @@ pieces-negated ((es, c) ∷ p) = ap (λ l. (es, neg_ℤ c) ∷ l) (pieces-negate
 pub pieces-raised : (i k : ℕ) (p : Polynomial) → pieces_of (raised i k) p ≡ shifted i k p
 pieces-raised i k [] = refl
 pieces-raised i k ((es, c) ∷ p) = ap (λ l. (set es i (get_or es i 0 + k), c) ∷ l) (pieces-raised i k p)
+
+pub pieces-lowered : (i k : ℕ) (p : Polynomial) → pieces_of (lowered_entry i k) p ≡ lowered i k p
+pieces-lowered i k [] = refl
+pieces-lowered i k ((es, c) ∷ p) = ap (λ l. (set es i (get_or es i 0 - k), c) ∷ l) (pieces-lowered i k p)
 
 pub pieces-cofactor : (i d : ℕ) (p : Polynomial) → pieces_of (cofactor i d) p ≡ coefficient_at i d p
 pieces-cofactor i d [] = refl
@@ -61,6 +67,11 @@ pub all-raisable : (i k : ℕ) (p : Polynomial) → i < MOST_VARIABLES → IsDes
 all-raisable i k [] h d f = refl
 all-raisable i k ((es, c) ∷ p) h d f =
     both_true (both_true (below i MOST_VARIABLES es d.0 h) (le-leb (get_or es i 0 + k) MOST_DEGREE (omega (arith, f)))) (all-raisable i k p h d.3 (omega (arith, f)))
+
+pub all-lowerable : (i k : ℕ) (p : Polynomial) → i < MOST_VARIABLES → IsDescending MOST_VARIABLES p → AllReach i k p → list_all (is_lowerable i k) p ≡ true
+all-lowerable i k [] h d r = refl
+all-lowerable i k ((es, c) ∷ p) h d r =
+    both_true (both_true (below i MOST_VARIABLES es d.0 h) (le-leb k (get_or es i 0) r.0)) (all-lowerable i k p h d.3 r.1)
 
 pub all-divisible : (m : ℕ) (p : Polynomial) → 0 < m → are_bounded p ≡ true → list_all (is_divisible m) p ≡ true
 all-divisible m [] some b = refl

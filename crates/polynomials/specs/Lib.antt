@@ -1,3 +1,5 @@
 pub mod Summed
 pub mod Pieces
 pub mod Held
+pub mod Keys
+pub mod Sizes

@@ -1,5 +1,5 @@
 -- What becomes of each entry of a polynomial where its list is copied with a change.
-use Rattle.std.specs.Prelude.{ℕ, ◌+◌, ◌==◌, [], ◌∷◌, ◌++◌, Bool, cond, ◌&&◌, nat_lt, nat_le, length, get_or, set, neg_ℤ, Option, Some, None}
+use Rattle.std.specs.Prelude.{ℕ, ◌+◌, ◌-◌, ◌==◌, [], ◌∷◌, ◌++◌, Bool, cond, ◌&&◌, nat_lt, nat_le, length, get_or, set, neg_ℤ, Option, Some, None}
 use Rattle.poly_model.specs.Polynomial.{Entry, Polynomial}
 use Rattle.poly_model.specs.Content.{signed_by, quotient_of}
 use Rattle.poly_model.specs.Standard.{entry_of, is_bounded}
@@ -30,6 +30,13 @@ raised i k e = (set e.0 i (get_or e.0 i 0 + k), e.1) ∷ []
 
 abbrev pub is_raisable : ℕ → ℕ → Entry → Bool
 is_raisable i k e = nat_lt i (length e.0) && nat_le (get_or e.0 i 0 + k) MOST_DEGREE
+
+-- The entry divided by a power of the variable at a place, and where that divides it.
+abbrev pub lowered_entry : ℕ → ℕ → Entry → Polynomial
+lowered_entry i k e = (set e.0 i (get_or e.0 i 0 - k), e.1) ∷ []
+
+abbrev pub is_lowerable : ℕ → ℕ → Entry → Bool
+is_lowerable i k e = nat_lt i (length e.0) && nat_le k (get_or e.0 i 0)
 
 -- What is beside a power of the variable at a place, of entries with that power alone.
 abbrev pub cofactor : ℕ → ℕ → Entry → Polynomial

@@ -5,7 +5,7 @@ ghost use Rattle.poly_model.specs.Polynomial.{Entry, Polynomial};
 ghost use Rattle.poly_model.specs.Standard.{entry_of, is_bounded, polynomial_of};
 ghost use Rattle.term_store.specs.States.{IsLive, list_at};
 ghost use Rattle.term_store.specs.Changes.{Makes};
-ghost use Rattle.polynomials.specs.Pieces.{pieces_of, piece_of, negated, unchanged, raised, is_raisable, cofactor, other_power, has_place, divided, is_divisible};
+ghost use Rattle.polynomials.specs.Pieces.{pieces_of, piece_of, negated, unchanged, raised, is_raisable, lowered_entry, is_lowerable, cofactor, other_power, has_place, divided, is_divisible};
 
 use poly_model::Term;
 use term_store::{Slot, TermStore};
@@ -67,6 +67,28 @@ impl Change for Raised {
     fn of(&self, term: &Term) -> Option<Term> {
         let mut exps = term.exps;
         exps[self.var as usize] += self.by;
+        Some(Term {
+            coef: term.coef,
+            exps,
+        })
+    }
+}
+
+/// Each term divided by a power of a variable.
+#[derive(Clone, Copy, Debug)]
+pub struct Lowered {
+    pub var: u8,
+    pub by: u8,
+}
+
+impl Change for Lowered {
+    ghost piece = { λ c. lowered_entry c.var c.by };
+
+    ghost takes = { λ c. is_lowerable c.var c.by };
+
+    fn of(&self, term: &Term) -> Option<Term> {
+        let mut exps = term.exps;
+        exps[self.var as usize] -= self.by;
         Some(Term {
             coef: term.coef,
             exps,

@@ -1,8 +1,9 @@
 // A run of the program, and what is to come of it.
-use command_line::gclc_run;
+use command_line::{exit_code, gclc_run};
 use desk_io::{MemDesk, MemSink};
 use poly_model::Gaussian;
 use std::alloc::{AllocError, Global};
+use std::process::ExitCode;
 use std::sync::Wait;
 use std::thread::Threads;
 
@@ -121,7 +122,7 @@ impl Case {
             &mut notes,
         );
         Ok(
-            status as u8 == self.status
+            exit_code(status) == ExitCode::from(self.status)
                 && out.bytes() == self.out.as_slice()
                 && notes.bytes() == self.notes.as_slice(),
         )

@@ -3,6 +3,7 @@
 #![tactic(auto)]
 
 mod case;
+mod direct;
 mod table;
 
 use anyhow::Result;
@@ -37,6 +38,10 @@ fn run_table<R: Files + AllocGlobal + Print + Threads + Wait + Sync>(
 fn main(rt: HostRuntime) -> Result<()> {
     let runs = run_table(&rt, "runs.txt")?;
     let logs = run_table(&rt, "logs.txt")?;
+    let alloc = rt.alloc();
+    direct::check_books(alloc)?;
+    direct::check_bytes_of_a_log(alloc, &fs::read(&rt, "logs/midline.log")?, 20)?;
+    direct::check_refusals(alloc)?;
     println!(rt; "{runs} runs and {logs} over logs as the tables say")?;
     Ok(())
 }

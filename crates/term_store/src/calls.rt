@@ -6,7 +6,7 @@ ghost use Rattle.term_store.specs.Faults.{IsFault};
 ghost use Rattle.term_store.specs.declared.store.StoreFault.TheVariants.{OutOfMemory};
 ghost use Rattle.std.specs.Prelude.{IfErr};
 
-use crate::seats::{append, count, make_room, seat, vacate, widen};
+use crate::seats::{append, count, items, make_room, seat, vacate, widen};
 use crate::space::Place;
 use crate::store::{Slot, StoreFault, TermStore};
 use crate::vec_store::VecStore;
@@ -70,6 +70,7 @@ impl TermStore for VecStore {
         Slot(slot)
     }
 
+    #[inline(always)]
     fn push(&mut self, slot: Slot, term: Term) {
         make_room(
             &mut self.terms,
@@ -93,6 +94,11 @@ impl TermStore for VecStore {
 
     fn len(&self, slot: Slot) -> usize {
         self.places[slot.0].len
+    }
+
+    fn terms(&self, slot: Slot) -> &[Term] {
+        let place = self.places[slot.0];
+        items(&self.terms, place.start, place.len)
     }
 
     fn get(&self, slot: Slot, i: usize) -> Term {

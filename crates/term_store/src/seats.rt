@@ -1,4 +1,4 @@
-ghost use Rattle.std.specs.Prelude.{◌≡◌, ◌≢◌, ◌≤◌, ◌<◌, ◌+◌, ◌++◌, ◌∷◌, ℕ, List, [], ◌^◌, OnOk, IsTrue, length, get_or, min, true, false};
+ghost use Rattle.std.specs.Prelude.{◌≡◌, ◌≢◌, ◌≤◌, ◌<◌, ◌+◌, ◌++◌, ◌∷◌, ℕ, List, [], ◌^◌, OnOk, IsTrue, length, take, drop, get_or, min, true, false};
 ghost use Rattle.std.specs.Vec.{vec_capacity};
 ghost use Rattle.poly_model.specs.declared.term.Term.{Term};
 ghost use Rattle.term_store.specs.Runs.{are_inside, is_inside, units, units_of, list_in, is_last, nowhere, run_of, vacated, Gathered};
@@ -100,6 +100,7 @@ pub fn compact(
 }
 
 /// Makes room for one term behind the list that ends last.
+#[inline(always)]
 pub fn make_room(
     terms: &mut Vec<Term>,
     places: &mut Vec<Place>,
@@ -136,6 +137,7 @@ pub fn make_room(
 }
 
 /// Appends a term to the list that ends last.
+#[inline(always)]
 pub fn append(terms: &mut Vec<Term>, places: &mut Vec<Place>, slot: usize, term: Term)
     requires below { slot < length places.old.items }
     requires last { IsTrue (is_last (length terms.old.items) (get_or places.old.items slot
@@ -177,6 +179,15 @@ pub fn vacate(places: &mut Vec<Place>, slot: usize)
     ensures seats { vec_capacity places.new ≡ vec_capacity places.old }
 {
     places[slot].live = false;
+}
+
+/// So many terms, from a place on.
+#[inline(always)]
+pub fn items(terms: &[Term], start: usize, len: usize) -> &[Term]
+    requires { start + len ≤ length terms.now }
+    ensures { result.now ≡ take len (drop start terms.now) }
+{
+    &terms[start..start + len]
 }
 
 /// The units of all live lists.

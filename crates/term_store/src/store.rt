@@ -63,6 +63,11 @@ pub trait TermStore {
         requires { IsLive (state self.now).lists slot.0 }
         ensures { result ≡ length (list_at (state self.now).lists slot.0) };
 
+    /// The terms of a list, as they stand.
+    fn terms(&self, slot: Slot) -> &[Term]
+        requires { IsLive (state self.now).lists slot.0 }
+        ensures { result.now ≡ list_at (state self.now).lists slot.0 };
+
     /// The term at a place of a list.
     fn get(&self, slot: Slot, i: usize) -> Term
         requires live { IsLive (state self.now).lists slot.0 }

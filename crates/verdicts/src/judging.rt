@@ -69,7 +69,8 @@ fn is_unproved(outcome: &Outcome) -> bool
     }
 }
 
-fn generic_leaf(pieces: &[Piece]) -> Option<&Piece>
+/// The leaf whose path has no `-`.
+pub fn generic_leaf(pieces: &[Piece]) -> Option<&Piece>
     ensures { option_copied result ≡ generic_leaf pieces.now }
 {
     pieces

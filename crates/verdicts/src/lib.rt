@@ -4,5 +4,5 @@
 mod judging;
 mod verdict;
 
-pub use judging::{add_condition, has_minus, judge, plus_part, under};
+pub use judging::{add_condition, generic_leaf, has_minus, judge, plus_part, under};
 pub use verdict::Verdict;

@@ -1,0 +1,5 @@
+pub mod Terms
+pub mod Tried
+pub mod Branch
+pub mod Shown
+pub mod Worked
