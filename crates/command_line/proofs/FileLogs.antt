@@ -25,7 +25,7 @@ use Rattle.algebraize.proofs.Limits.{AllNear, sound-near, front-near, problem-wi
 use Rattle.algebraize.proofs.Proves.{variables_of_layout}
 use Rattle.algebraize.proofs.Stated.{stated_problem}
 use Rattle.proof_log.specs.Accepted.{IsAccepted}
-use Rattle.proof_log.specs.declared.limits.TheConstants.{VERSION}
+use Rattle.proof_steps.specs.declared.version.TheConstants.{VERSION}
 use Rattle.proof_log.specs.declared.log.Proof.{Proof}
 use Rattle.prove_run.specs.Logs as logs
 use Rattle.prove_run.specs.Logs.{log_of, log_of_program}

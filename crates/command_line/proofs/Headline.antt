@@ -15,7 +15,7 @@ use Rattle.algebraize.specs.Formed.{equations}
 use Rattle.algebraize.specs.Problem.{problems_of}
 use Rattle.assurance.specs.Assured.{TreesCover, VerdictsHold}
 use Rattle.proof_log.specs.Grammar.{AreProofs}
-use Rattle.proof_log.specs.declared.limits.TheConstants.{VERSION}
+use Rattle.proof_steps.specs.declared.version.TheConstants.{VERSION}
 use Rattle.proof_log.specs.declared.log.Proof.{Proof}
 use Rattle.log_checker.specs.Answers.{Finding, Accepted, Malformed, Rejected, IsFound, IsAcceptedText}
 use Rattle.prove_run.specs.Whole.{HasCounts}

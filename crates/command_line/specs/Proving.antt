@@ -8,7 +8,7 @@ use Rattle.verdicts.specs.declared.verdict.Verdict.{Verdict}
 use Rattle.verdicts.specs.declared.verdict.Verdict.TheVariants as verdict
 use Rattle.proof_log.specs.Lines.{log_lines}
 use Rattle.proof_log.specs.Text.{text_of}
-use Rattle.proof_log.specs.declared.limits.TheConstants.{VERSION}
+use Rattle.proof_steps.specs.declared.version.TheConstants.{VERSION}
 use Rattle.proof_log.specs.declared.log.Proof.{Proof}
 use Rattle.prove_run.specs.Logs.{log_of_program}
 use Rattle.command_line.specs.Answer.{Answer}

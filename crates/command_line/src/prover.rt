@@ -2,7 +2,7 @@
 ghost use Rattle.std.specs.Prelude.{IfOk};
 ghost use Rattle.gcl_names.specs.Sound.{IsSound};
 ghost use Rattle.gcl_reader.specs.Grammar.{Gives};
-ghost use Rattle.proof_log.specs.declared.limits.TheConstants.{VERSION};
+ghost use Rattle.proof_steps.specs.declared.version.TheConstants.{VERSION};
 ghost use Rattle.prove_run.specs.Logs.{log_of_program};
 ghost use Rattle.prove_run.specs.Whole.{IsWhole};
 

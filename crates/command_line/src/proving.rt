@@ -4,7 +4,7 @@ ghost use Rattle.desk_io.specs.Bytes.{Puts};
 ghost use Rattle.desk_io.specs.Causes.{HasCause, Rose};
 ghost use Rattle.gcl_reader.specs.Grammar.{Gives};
 ghost use Rattle.proof_log.specs.Own.{IsOwn};
-ghost use Rattle.proof_log.specs.declared.limits.TheConstants.{VERSION};
+ghost use Rattle.proof_steps.specs.declared.version.TheConstants.{VERSION};
 ghost use Rattle.prove_run.specs.Whole.{IsWhole};
 ghost use Rattle.command_line.specs.Answer.{answer_from};
 ghost use Rattle.command_line.specs.Contract.{IsQuiet};

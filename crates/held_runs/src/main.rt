@@ -5,7 +5,7 @@
 
 ghost use Rattle.std.specs.Prelude.{IfOk};
 ghost use Rattle.gcl_names.specs.Sound.{IsSound};
-ghost use Rattle.proof_log.specs.declared.limits.TheConstants.{VERSION};
+ghost use Rattle.proof_steps.specs.declared.version.TheConstants.{VERSION};
 ghost use Rattle.prove_run.specs.Whole.{IsWhole};
 
 mod hold;

@@ -9,7 +9,8 @@ use Rattle.poly_model.specs.Names.{are_variables}
 use Rattle.poly_model.specs.declared.vars.VarName.{VarName}
 use Rattle.poly_text.specs.Text.{poly_text, variable_text}
 use Rattle.poly_model.specs.declared.limits.TheConstants.{MOST_LETTERS, MOST_SIZE, MOST_CONCLUSIONS}
-use Rattle.proof_log.specs.declared.limits.TheConstants.{MOST_INDEX, MOST_PROOFS, VERSION}
+use Rattle.proof_log.specs.declared.limits.TheConstants.{MOST_INDEX, MOST_PROOFS}
+use Rattle.proof_steps.specs.declared.version.TheConstants.{VERSION}
 use Rattle.proof_steps.specs.declared.step.Attempt.{Attempt}
 use Rattle.proof_steps.specs.declared.step.Attempt.TheVariants as attempt
 use Rattle.poly_model.specs.declared.limits.Reason.{Reason}

@@ -10,10 +10,10 @@ ghost use Rattle.proof_log.specs.Text.{Field, Multiplier, letter_text, reason_te
 
 use crate::cut::cut;
 use crate::fault::LineFault;
-use crate::limits::{MOST_INDEX, MOST_PROOFS, VERSION};
+use crate::limits::{MOST_INDEX, MOST_PROOFS};
 use poly_model::{MOST_CONCLUSIONS, MOST_LETTERS, MOST_SIZE, Reason};
 use poly_text::read_number;
-use proof_steps::Path;
+use proof_steps::{Path, VERSION};
 use std::alloc::Global;
 
 /// A small field of a line: a version, how many proofs or which, a conclusion, an equation or a condition, a multiplier,

@@ -1,6 +1,3 @@
-/// The newest version of logs.
-pub const VERSION: u8 = 1;
-
 /// The most proofs of a log.
 pub const MOST_PROOFS: u8 = 16;
 

@@ -7,17 +7,16 @@ ghost use Rattle.proof_log.specs.Lines.{step_line, status_line, log_lines};
 ghost use Rattle.proof_log.specs.Own.{IsOver, StepIsOver, ChainIsOver, OutcomeIsOver, PieceIsOver, ProblemIsOwn, IsOwn};
 ghost use Rattle.proof_log.specs.Text.{word_text, text_of};
 ghost use Rattle.proof_log.specs.Writing.{whole_line, polynomial_line, polynomials_text, step_text, chain_text, lists_text, system_text, open_text, outcome_text, piece_text, problem_text, proof_text, proofs_text, count_text};
-ghost use Rattle.proof_log.specs.declared.limits.TheConstants.{VERSION};
+ghost use Rattle.proof_steps.specs.declared.version.TheConstants.{VERSION};
 
 use crate::field::Field;
-use crate::limits::VERSION;
 use crate::line::LineWord;
 use crate::line_writing::{Rest, write_number, write_row};
 use crate::log::{Log, Proof};
 use crate::words::word_text;
 use desk_io::{Failed, Pen, Sink};
 use poly_model::{OwnedPoly, Reason, Vars};
-use proof_steps::{Attempt, ChainStep, LeafStatus, Outcome, Piece, Problem, Step};
+use proof_steps::{Attempt, ChainStep, LeafStatus, Outcome, Piece, Problem, Step, VERSION};
 
 /// Writes a line for each polynomial.
 fn write_polynomials<S: Sink>(

@@ -11,7 +11,8 @@ use Rattle.algebraize.specs.Formed.{equations}
 use Rattle.algebraize.specs.Problem.{problem_of, problems_from, problems_of, proves_in}
 use Rattle.algebraize.proofs.Proves.{counted}
 use Rattle.proof_steps.specs.declared.problem.Problem.{Problem}
-use Rattle.proof_log.specs.declared.limits.TheConstants.{MOST_PROOFS, VERSION}
+use Rattle.proof_log.specs.declared.limits.TheConstants.{MOST_PROOFS}
+use Rattle.proof_steps.specs.declared.version.TheConstants.{VERSION}
 use Rattle.prove_run.specs.Logs as logs
 use Rattle.prove_run.specs.Logs.{log_of, log_of_program}
 

@@ -11,7 +11,7 @@ use Rattle.algebraize.specs.Problem.{problems_of}
 use Rattle.proof_steps.specs.Stated.{IsStated}
 use Rattle.proof_steps.specs.declared.problem.Problem.{Problem}
 use Rattle.proof_log.specs.Accepted.{IsAccepted}
-use Rattle.proof_log.specs.declared.limits.TheConstants.{VERSION}
+use Rattle.proof_steps.specs.declared.version.TheConstants.{VERSION}
 use Rattle.proof_log.specs.declared.log.Proof.{Proof}
 use Rattle.prove_run.specs.Logs.{proof_of, log_of, log_of_program}
 use Rattle.prove_run.specs.Whole.{IsPosed, IsWhole}

@@ -21,7 +21,8 @@ use Rattle.tree_laws.proofs.Ranged.{trees-within}
 use Rattle.proof_log.specs.Accepted.{IsAcceptedProof, AreAccepted}
 use Rattle.proof_log.specs.Lines.{piece_lines, proof_lines, proofs_lines, log_lines, left_from, OutcomeWritten, PiecesWritten, LogWritten}
 use Rattle.proof_log.specs.Text.{FitsVerdict, AreLines}
-use Rattle.proof_log.specs.declared.limits.TheConstants.{MOST_PROOFS, VERSION}
+use Rattle.proof_log.specs.declared.limits.TheConstants.{MOST_PROOFS}
+use Rattle.proof_steps.specs.declared.version.TheConstants.{VERSION}
 use Rattle.proof_log.specs.declared.line.LogLine.{LogLine}
 use Rattle.proof_log.specs.declared.line.LogLine.TheVariants as line
 use Rattle.proof_log.specs.declared.log.Proof.{Proof}

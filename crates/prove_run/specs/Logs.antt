@@ -5,7 +5,7 @@ use Rattle.proof_steps.specs.Trees.{tree_of}
 use Rattle.proof_steps.specs.declared.piece.Piece.{Piece}
 use Rattle.proof_steps.specs.declared.problem.Problem.{Problem}
 use Rattle.verdicts.specs.Verdicts.{verdict_of}
-use Rattle.proof_log.specs.declared.limits.TheConstants.{VERSION}
+use Rattle.proof_steps.specs.declared.version.TheConstants.{VERSION}
 use Rattle.proof_log.specs.declared.log.Proof.{Proof}
 use Rattle.gcl_reader.specs.Grammar.{◌>>=◌}
 use Rattle.gcl_reader.specs.declared.refusal.Refusal.{Refusal}

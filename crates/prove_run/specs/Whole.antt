@@ -7,7 +7,8 @@ use Rattle.proof_steps.specs.declared.problem.Problem.{Problem}
 use Rattle.proof_log.specs.Accepted.{IsAccepted}
 use Rattle.proof_log.specs.Lines.{log_lines, LogWritten}
 use Rattle.proof_log.specs.Text.{text_of, AreLines}
-use Rattle.proof_log.specs.declared.limits.TheConstants.{MOST_PROOFS, VERSION}
+use Rattle.proof_log.specs.declared.limits.TheConstants.{MOST_PROOFS}
+use Rattle.proof_steps.specs.declared.version.TheConstants.{VERSION}
 use Rattle.proof_log.specs.declared.log.Proof.{Proof}
 use Rattle.prove_run.specs.Logs.{log_of}
 

@@ -1,5 +1,5 @@
 use Rattle.proof_log.proofs.Owned.{log-own}
-use Rattle.proof_log.specs.declared.limits.TheConstants.{VERSION}
+use Rattle.proof_steps.specs.declared.version.TheConstants.{VERSION}
 use Rattle.held_runs.proofs.text_of.Goals as goal
 
 pub write_log-requires : goal.write_log-requires

@@ -2,7 +2,7 @@ use Rattle.std.proofs.Common.{All, ◌∙◌, ap, sym, subst}
 use Rattle.std.specs.List.{flat_map}
 use Rattle.proof_log.proofs.Owned.{log-own}
 use Rattle.proof_log.specs.Own.{IsOwn}
-use Rattle.proof_log.specs.declared.limits.TheConstants.{VERSION}
+use Rattle.proof_steps.specs.declared.version.TheConstants.{VERSION}
 use Rattle.command_line.specs.Proving.{proved, status_of}
 use Rattle.command_line.specs.VerdictLines.{verdicts_text, problems_in, verdicts_in}
 use Rattle.command_line.proofs.Outcomes.{put_failed_ends}

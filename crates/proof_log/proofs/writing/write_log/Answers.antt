@@ -1,7 +1,7 @@
 use Rattle.std.proofs.Common.{ap, append_assoc, codes, length, sym, ◌++◌, ◌∙◌}
 use Rattle.desk_io.proofs.Growth.{Grew-then}
 use Rattle.desk_io.proofs.Writing.{first_failed, next_failed, last_writes}
-use Rattle.proof_log.specs.declared.limits.TheConstants.{VERSION}
+use Rattle.proof_steps.specs.declared.version.TheConstants.{VERSION}
 use Rattle.proof_log.specs.declared.line.LineWord.TheVariants as word
 use Rattle.proof_log.specs.Writing.{count_text, proofs_text, log_text}
 use Rattle.proof_log.proofs.Whole.{whole_log}
