@@ -5,8 +5,8 @@
 set -eu
 top=$(cd "$(dirname "$0")/.." && pwd)
 command -v valgrind >/dev/null || { echo "arithmetic.sh: valgrind is not here" >&2; exit 1; }
-program=$top/crates/arithmetic/out/arithmetic
-[ -x "$program" ] || (cd "$top/crates/arithmetic" && rt run >/dev/null)
+program=$top/crates/runs/out/runs
+[ -x "$program" ] || (cd "$top/crates/runs" && rt run >/dev/null)
 work=$(mktemp -d)
 trap 'rm -rf "$work"' EXIT
 

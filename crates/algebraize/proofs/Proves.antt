@@ -23,8 +23,8 @@ use Rattle.algebraize.specs.declared.layout.Coordinate.TheVariants as coordinate
 use Rattle.algebraize.specs.declared.new_points.NewPoints.{NewPoints}
 use Rattle.algebraize.specs.declared.new_points.NewPoints.TheVariants as new
 use Rattle.algebraize.specs.Layout.{Layout, layout_of, layout_from, new_points, with_points, free_point, semi_free_point, dependent_point, empty, with_u, with_x, with_place, next}
-use Rattle.algebraize.specs.Equations.{Equations, equations_of, Mean}
-use Rattle.algebraize.specs.Problem.{is_prove, acts_before, laid_out, too_many_variables, problem_at, problem_of_deed, problem_between, MeanDeed, MeanBetween, problem_of, problems_from, proves_in}
+use Rattle.algebraize.specs.Equations.{Equations, equations_of}
+use Rattle.algebraize.specs.Problem.{is_prove, acts_before, laid_out, too_many_variables, problem_at, problem_of_deed, problem_between, problem_of, problems_from, proves_in}
 
 -- Layouts grow.
 grows-free : (l : Layout) → length l.variables ≤ length (free_point l).variables
@@ -236,12 +236,6 @@ between before [] i a s ps below is asks = absurd (omega arith)
 between before (x ∷ acts) zero a s ps below is asks =
     (λ j. problem_of_deed before (sym is j) (sym is j).deed) ∙ ap (problem_of_deed before a) asks
 between before (x ∷ acts) (suc i) a s ps below is asks = between before acts i a s ps (omega arith) is asks
-
-pub mean_between : {M : Type 0} (o : Operations M) (before acts : List Act) (i : ℕ) (a : Act) (s : Statement) (ps : List ℕ) (e : Equations)
-    → i < length acts → a ≡ get_or acts i a → a.deed ≡ deed.Prove s ps → Mean o before s ps e → MeanBetween o before (drop i acts) e
-mean_between o before [] i a s ps e below is asks m = absurd (omega arith)
-mean_between o before (x ∷ acts) zero a s ps e below is asks m = subst (λ d. MeanDeed o before d e) (sym ((λ j. (sym is j).deed) ∙ asks)) m
-mean_between o before (x ∷ acts) (suc i) a s ps e below is asks m = mean_between o before acts i a s ps e (omega arith) is asks m
 
 pub place_below : (n : Counts) (acts : List Act) (k : ℕ) → n.proves + k < (after_all n acts).proves → acts_before k acts < length acts
 unfolding after_all

@@ -4,7 +4,8 @@ ghost use Rattle.gcl_reader.specs.declared.word.Statement.{Statement};
 ghost use Rattle.gcl_names.specs.declared.program.Act.{Act};
 ghost use Rattle.poly_model.specs.declared.limits.TheConstants.{MOST_VARIABLES};
 ghost use Rattle.algebraize.specs.Layout.{layout_of};
-ghost use Rattle.algebraize.specs.Equations.{Mean, equations_of};
+ghost use Rattle.algebraize.specs.Equations.{Equations, Mean, equations_of};
+ghost use Rattle.algebraize.specs.Problem.{MeanProve, problem_of};
 ghost use Rattle.algebraize.specs.Ratio.{denominator, numerator};
 ghost use Rattle.algebraize.specs.declared.ratio.TheConstants.{MILLIONTHS};
 ghost use Rattle.algebraize.specs.Laws.{CutCircleLaw, CutLineLaw, FootLaw, IntersecLaw, LineLaws, MidpointLaw, OncircleLaw, OnlineLaw, StatementLaws, TowardsLaw, TranslateLaw};
@@ -16,6 +17,13 @@ pub fn equations_mean_their_figure<D: Domain>(_d: &D)
     ensures { (acts : List Act) (s : Statement) (points : List ℕ)
         → length (layout_of acts).variables ≤ MOST_VARIABLES
         → Mean D.operations acts s points (equations_of acts s points) }
+{}
+
+/// The problem of a prove, as `system_of` gives it: at each point of a domain's space its hypotheses are zero exactly where the
+/// figure there meets the constructions before the prove, and its conclusions exactly where it meets the statement.
+pub fn problems_mean_their_figures<D: Domain>(_d: &D)
+    ensures { (acts : List Act) (k : ℕ) (e : Equations)
+        → problem_of acts k ≡ Ok e → MeanProve D.operations acts k e }
 {}
 
 /// The conditions of each construction, and of each line, in other words.

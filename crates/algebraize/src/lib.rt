@@ -15,8 +15,8 @@ mod terms;
 mod vectors;
 
 pub use laws::{
-    constructions_in_other_words, equations_mean_their_figure, ratios_are_in_lowest_terms,
-    statements_in_other_words,
+    constructions_in_other_words, equations_mean_their_figure, problems_mean_their_figures,
+    ratios_are_in_lowest_terms, statements_in_other_words,
 };
 pub use problem::{problems, system_of};
 pub use proof_steps::Problem;

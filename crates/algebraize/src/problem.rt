@@ -8,13 +8,13 @@ ghost use Rattle.proof_steps.specs.Stated.{IsStated, IsWithinLimits};
 ghost use Rattle.algebraize.specs.Equations.{polynomials};
 ghost use Rattle.algebraize.specs.Figure.{conditions_from};
 ghost use Rattle.algebraize.specs.Formed.{HasDefaults, curves_of, equations, is_own, is_quadratic};
-ghost use Rattle.algebraize.specs.Problem.{MeanProve, acts_before, is_prove, problem_at, problem_of, problems_of};
+ghost use Rattle.algebraize.specs.Problem.{acts_before, is_prove, problem_at, problem_of, problems_of};
 
 use crate::figure::Figure;
 use crate::layout::lay_out;
 use gcl_names::{Act, Deed, Program};
 use gcl_reader::{GclFault, Statement};
-use poly_model::{Domain, Integers, OwnedPoly, Row};
+use poly_model::{OwnedPoly, Row};
 use proof_steps::Problem;
 use std::alloc::{AllocError, Global};
 
@@ -93,19 +93,12 @@ fn acts_before(acts: &[Act], prove: u32) -> usize
 
 /// The problem of a prove of a sound program, counted from 0.
 ///
-/// It is refused where the points before the prove want more than `MOST_VARIABLES` variables. The domain is not used: the
-/// call tells what the equations mean in it.
-pub fn system_of<D: Domain>(
-    alloc: Global,
-    _domain: &D,
-    program: &Program,
-    prove: u32,
-) -> Result<Problem, GclFault>
+/// It is refused where the points before the prove want more than `MOST_VARIABLES` variables. What it means over a domain
+/// is said by `problems_mean_their_figures`.
+pub fn system_of(alloc: Global, program: &Program, prove: u32) -> Result<Problem, GclFault>
     requires sound { IsSound program.now }
     requires prove { prove < program.now.proves }
     ensures value { Gives equations result (problem_of program.now.acts prove) }
-    ensures mean { IfOk result (λ problem. MeanProve D.operations program.now.acts prove
-        (equations problem)) }
     ensures own { IfOk result (λ problem. IsTrue (is_own problem)) }
     ensures stated { IfOk result (λ problem. IsStated problem) }
     ensures quadratic { IfOk result (λ problem. IsTrue (is_quadratic problem)) }
@@ -137,7 +130,7 @@ pub fn problems(alloc: Global, program: &Program) -> Result<Vec<Problem>, GclFau
     let mut problems = Vec::new(alloc);
     let mut prove = 0;
     while prove < program.proves {
-        problems.push(system_of(alloc, &Integers, program, prove)?)?;
+        problems.push(system_of(alloc, program, prove)?)?;
         prove += 1;
     }
     Ok(problems)

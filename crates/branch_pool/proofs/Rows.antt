@@ -68,6 +68,10 @@ module _ {I : Type 0} where
   pub next_of : (yielded rest next : List (End I)) (own : End I) → rest ≡ own ∷ next → (yielded ++ own ∷ []) ++ next ≡ yielded ++ rest
   next_of yielded rest next own e = append_assoc yielded (own ∷ []) next ∙ ap (λ l. yielded ++ l) (sym e)
 
+  pub lanes_many : (doors : List (End I)) (place : ℕ) (xs : List (End I)) → length (lanes_from doors place xs) ≡ length xs
+  lanes_many doors place [] = refl
+  lanes_many doors place (x ∷ xs) = ap suc (lanes_many doors (suc place) xs)
+
   pub as_many : (doors ys owners : List (End I)) → doors ≡ map (λ (o : End I). new_end {I = I} o.deque) ys → doors ≡ map (λ (o : End I). new_end {I = I} o.deque) owners → length ys ≡ length owners
   as_many doors ys owners e f =
       sym (length-map ys (λ (o : End I). new_end {I = I} o.deque)) ∙ ap length (sym e ∙ f) ∙ length-map owners (λ (o : End I). new_end {I = I} o.deque)

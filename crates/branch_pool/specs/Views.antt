@@ -1,5 +1,5 @@
 -- A lane: the owner's end of its own deque, and an end of each other lane's deque.
-use Rattle.std.specs.Prelude.{◌≡◌, ℕ, suc, ◌-◌, List, [], ◌∷◌, Some, cond, nat_lt, map, slice_get, slice_set, length}
+use Rattle.std.specs.Prelude.{◌≡◌, ◌⊎◌, ℕ, suc, ◌-◌, List, [], ◌∷◌, ◌++◌, Some, cond, nat_lt, map, slice_get, slice_set, length}
 use Rattle.std.specs.List.{remove, All}
 use Rattle.branch_pool.specs.Deques.{End, new_end, gave_at, took_at}
 
@@ -47,3 +47,11 @@ pub record AreLanes {I : Type 0} (count : ℕ) (lanes : List (View I)) : Type 0 
   pub many : length ends ≡ count
   pub new : All (λ e. e ≡ new_end e.deque) ends
   pub are : lanes ≡ lanes_from ends 0 ends
+
+-- an item is added to a lane, or else to a list of items that lanes did not take
+abbrev pub IsKept : {I : Type 0} → View I → List I → I → View I → List I → Type 0
+IsKept v xs x w ys = ((w ≡ after_push v x) × (ys ≡ xs)) ⊎ ((w ≡ v) × (ys ≡ xs ++ x ∷ []))
+
+-- the same of two items, one after the other
+abbrev pub AreKept : {I : Type 0} → View I → List I → I → I → View I → List I → Type 0
+AreKept {I} v xs x y w zs = (u : View I) × (ys : List I) × IsKept v xs x u ys × IsKept u ys y w zs

@@ -6,7 +6,7 @@ use proof_steps::Path;
 use std::sync::{Condvar, Mutex, Wait};
 use std::thread;
 
-/// What the workers share: the book under a lock, and a bell that rings when it changes.
+/// What the workers share: the book under a lock, and a bell that rings when there is work, or none will come.
 #[derive(Drop)]
 pub struct Board<P> {
     pub(crate) book: Mutex<Book<P>>,
@@ -29,10 +29,15 @@ impl<P: Drop> Board<P> {
         self.book.lock(rt).take(worker, path).ok()
     }
 
-    /// Ends a path that has no children.
+    /// Ends a path that has no children. It makes no work, so those who wait are woken where all is done, and only there.
     pub(crate) fn leaf<R: Wait>(&self, rt: &R, ticket: Ticket, piece: P) {
-        let _ = self.book.lock(rt).leaf(ticket, piece);
-        self.moved.notify_all();
+        let mut book = self.book.lock(rt);
+        let _ = book.leaf(ticket, piece);
+        let ended = matches!(&book.idle(), Idle::Done);
+        drop(book);
+        if ended {
+            self.moved.notify_all();
+        }
     }
 
     /// Ends a path whose children wait. False where memory ran out, and then the book is stopped.

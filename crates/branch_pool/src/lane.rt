@@ -1,4 +1,4 @@
-ghost use Rattle.std.specs.Prelude.{◌≡◌, ◌≢◌, ◌≤◌, ◌<◌, ◌+◌, ◌++◌, length, map, IfOk, OnOk, OnErr, IfErr, MatchOption, vec_len};
+ghost use Rattle.std.specs.Prelude.{◌≡◌, ◌≢◌, ◌⊎◌, ◌≤◌, ◌<◌, ◌+◌, ◌++◌, length, map, IfOk, OnOk, OnErr, IfErr, MatchOption, vec_len};
 ghost use Rattle.std.specs.List.{remove, All};
 ghost use Rattle.branch_pool.specs.Deques.{new_end};
 ghost use Rattle.branch_pool.specs.Views.{after_push, after_pop, Steals, StealsSome, door_to, AreLanes};
@@ -55,15 +55,27 @@ impl<I> Lane<I> {
         door.steal(rt)
     }
 
-    /// Takes the first item of the first other lane that has one.
+    /// Takes the first item of the first other lane that has one, from the lane behind this one on and round to it.
     pub fn steal_any<R: Wait>(&mut self, rt: &R) -> Option<I>
         ensures { MatchOption result (self.new ≡ self.old) (λ x. StealsSome self.old x self.new) }
     {
-        for from in 0..self.lanes() {
-            if from != self.place() {
-                if let Some(item) = self.steal(rt, from) {
-                    return Some(item);
-                }
+        let place = self.place();
+        let lanes = self.lanes();
+        match self.steal_among(rt, place + 1, lanes) {
+            Some(item) => Some(item),
+            None => self.steal_among(rt, 0, place),
+        }
+    }
+
+    // The same of the lanes from one place up to another.
+    fn steal_among<R: Wait>(&mut self, rt: &R, first: usize, end: usize) -> Option<I>
+        requires beside { (end ≤ self.old.place) ⊎ (self.old.place < first) }
+        requires there { end ≤ length self.old.doors + 1 }
+        ensures { MatchOption result (self.new ≡ self.old) (λ x. StealsSome self.old x self.new) }
+    {
+        for from in first..end {
+            if let Some(item) = self.steal(rt, from) {
+                return Some(item);
             }
         }
         None
@@ -71,7 +83,8 @@ impl<I> Lane<I> {
 
     /// Its place among the lanes.
     pub fn place(&self) -> usize
-        ensures { result ≡ self.now.place }
+        ensures place { result ≡ self.now.place }
+        ensures within { result ≤ length self.now.doors }
     {
         self.place
     }

@@ -29,12 +29,9 @@ pub fn run_all<W: Work + Sync, G: Gate + Sync, R: Threads + Wait + Sync>(
     ensures { IfOk result (λ v. v.items ≡ preorder (W.tree W.root)) }
 {
     let root = Branch::root(root);
-    let mut all = seats(alloc, workers as usize)?;
+    let mut all = seats(alloc, work, workers as usize)?;
     let board = Board::new(Book::new(alloc)?);
-    let mut room = work.make_room(alloc)?;
-    if let Some(first) = all.first_mut() {
-        let _ = do_branch(rt, alloc, work, gate, &board, first, &mut room, 1, &root);
-    }
+    let _ = do_branch(rt, alloc, work, gate, &board, &mut all[0], 1, &root);
     let shared = &board;
     thread::for_each_mut(
         rt,
@@ -61,11 +58,11 @@ pub fn run_all<W: Work + Sync, G: Gate + Sync, R: Threads + Wait + Sync>(
             if whole(alloc, &done)? {
                 into_pieces(done)
             } else {
-                run_alone(rt, alloc, work, gate, &mut room, root)
+                run_alone(rt, alloc, work, gate, &mut all[0].room, root)
             }
         }
-        Idle::Work => run_alone(rt, alloc, work, gate, &mut room, root),
-        Idle::Wait => run_alone(rt, alloc, work, gate, &mut room, root),
+        Idle::Work => run_alone(rt, alloc, work, gate, &mut all[0].room, root),
+        Idle::Wait => run_alone(rt, alloc, work, gate, &mut all[0].room, root),
     }
 }
 

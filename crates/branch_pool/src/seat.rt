@@ -1,4 +1,5 @@
-ghost use Rattle.std.specs.Prelude.{◌≡◌, ◌<◌, ◌≤◌, ◌+◌, OnOk, vec_len, vec_capacity};
+ghost use Rattle.std.specs.Prelude.{◌≡◌, ◌<◌, ◌≤◌, ◌+◌, IfOk, OnOk, vec_len, vec_capacity};
+ghost use Rattle.branch_pool.specs.Views.{AreKept, IsKept};
 
 use crate::board::Board;
 use crate::lane::{Lane, lanes};
@@ -6,11 +7,12 @@ use crate::work::{Branch, Done, Gate, Work};
 use std::alloc::{AllocError, Global};
 use std::sync::Wait;
 
-/// A worker's lane, and the branches that its deque did not take.
+/// A worker's lane, the branches that its deque did not take, and its room to expand branches in.
 #[derive(Drop)]
 pub struct Seat<W: Work> {
     lane: Lane<Branch<W>>,
     kept: Vec<Branch<W>>,
+    pub room: W::Room,
 }
 
 impl<W: Work> Seat<W> {
@@ -24,6 +26,8 @@ impl<W: Work> Seat<W> {
     // The children of a branch that was split: while one is in no worker's reach, the others wait for it.
     fn keep_both(&mut self, plus: Branch<W>, minus: Branch<W>)
         requires { vec_len self.old.kept + 2 ≤ vec_capacity self.old.kept }
+        ensures { AreKept self.old.lane self.old.kept.items plus minus self.new.lane
+            self.new.kept.items }
     {
         self.keep(plus);
         self.keep(minus);
@@ -31,6 +35,8 @@ impl<W: Work> Seat<W> {
 
     fn keep(&mut self, branch: Branch<W>)
         requires { vec_len self.old.kept < vec_capacity self.old.kept }
+        ensures kept { IsKept self.old.lane self.old.kept.items branch self.new.lane
+            self.new.kept.items }
         ensures more { vec_len self.new.kept ≤ vec_len self.old.kept + 1 }
         ensures room { vec_capacity self.new.kept ≡ vec_capacity self.old.kept }
     {
@@ -51,13 +57,16 @@ impl<W: Work> Seat<W> {
     }
 }
 
-/// As many seats as that.
-pub fn seats<W: Work>(alloc: Global, count: usize) -> Result<Vec<Seat<W>>, AllocError> {
+/// As many seats as that, each with its room.
+pub fn seats<W: Work>(alloc: Global, work: &W, count: usize) -> Result<Vec<Seat<W>>, AllocError>
+    ensures { IfOk result (λ v. vec_len v ≡ count) }
+{
     let mut seats = Vec::new(alloc);
     for lane in lanes(alloc, count)? {
         seats.push(Seat {
             lane,
             kept: Vec::new(alloc),
+            room: work.make_room(alloc)?,
         })?;
     }
     Ok(seats)
@@ -71,7 +80,6 @@ pub fn do_branch<W: Work, G: Gate, R: Wait>(
     gate: &G,
     board: &Board<Done<W>>,
     seat: &mut Seat<W>,
-    room: &mut W::Room,
     worker: u32,
     branch: &Branch<W>,
 ) -> bool {
@@ -84,7 +92,7 @@ pub fn do_branch<W: Work, G: Gate, R: Wait>(
         board.refuse(rt, ticket);
         return false;
     };
-    let Ok((done, children)) = branch.expand(alloc, work, room) else {
+    let Ok((done, children)) = branch.expand(alloc, work, &mut seat.room) else {
         board.refuse(rt, ticket);
         return false;
     };
@@ -113,15 +121,10 @@ pub fn work_at<W: Work, G: Gate, R: Wait>(
     seat: &mut Seat<W>,
     worker: u32,
 ) {
-    let Ok(mut room) = work.make_room(alloc) else {
-        return;
-    };
     for _ in rt.forever() {
         match seat.next(rt) {
             Some(branch) => {
-                if !do_branch(
-                    rt, alloc, work, gate, board, seat, &mut room, worker, &branch,
-                ) {
+                if !do_branch(rt, alloc, work, gate, board, seat, worker, &branch) {
                     return;
                 }
             }

@@ -27,7 +27,7 @@ use Rattle.command_line.specs.Contract.{IsFault}
 use Rattle.command_line.specs.Figures.{IsAssuredOf}
 use Rattle.command_line.specs.Headline.{Headline, IsDecided, IsWritten, ProvesOf, assured_so, ProvedIsAssured}
 use Rattle.command_line.specs.Proving.{proofs_of, log_text, proved}
-use Rattle.command_line.specs.Table.{Form, TextOf, ProveOf, CheckOf, OfFile, IsAnswer}
+use Rattle.command_line.specs.Table.{Form, TextOf, ProveOf, CheckOf, TrialOf, OfFile, IsAnswer}
 use Rattle.command_line.specs.VerdictLines.{problems_in}
 use Rattle.command_line.specs.declared.status.Status.{Status}
 use Rattle.command_line.specs.declared.status.Status.TheVariants.{Done}
@@ -118,7 +118,7 @@ answered form files status (inl a) written = (a.0, a.1, sym a.2)
 answered form files status (inr fault) written = absurd (not_fault status written fault)
 
 -- ---- what is proved
-accepted_text : (proofs : List Proof) → IsSure proofs → IsAcceptedText proofs (log_text proofs)
+pub accepted_text : (proofs : List Proof) → IsSure proofs → IsAcceptedText proofs (log_text proofs)
 accepted_text proofs sure = record {
   heading = newest;
   stated = newest-known.stated;
@@ -211,6 +211,7 @@ module _ {M : Type 0} (o : Operations M) (cover : TreesCover o) (hold : Verdicts
   pub headline : (form : Option Form) (held : Option Files) (status : Status) → IsDecided form held status → Headline o form held status
   headline None held status decided = tt
   headline (Some (TextOf command file)) held status decided = tt
+  headline (Some (TrialOf number)) held status decided = tt
   headline (Some (ProveOf file)) held status decided = λ written source there.
       let f = told held file source there in
       let a = answered (Some (ProveOf file)) f.0 status (decided f.0 f.1) written in

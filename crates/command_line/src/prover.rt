@@ -2,6 +2,7 @@
 ghost use Rattle.std.specs.Prelude.{◌≡◌, IfOk};
 ghost use Rattle.gcl_names.specs.Sound.{IsSound};
 ghost use Rattle.gcl_reader.specs.Grammar.{Gives};
+ghost use Rattle.proof_log.specs.Accepted.{IsAccepted};
 ghost use Rattle.proof_log.specs.Headings.{heading_of};
 ghost use Rattle.prove_run.specs.Logs.{log_of_program, newest};
 ghost use Rattle.prove_run.specs.Whole.{IsWhole};
@@ -27,6 +28,7 @@ pub trait Prover {
         requires sound { IsSound program.now }
         ensures log { Gives (λ log. log.proofs) result (log_of_program program.now.acts) }
         ensures heading { IfOk result (λ log. heading_of log ≡ newest) }
+        ensures accepted { IfOk result (λ log. IsAccepted newest log.proofs) }
         ensures whole { IfOk result (λ log. IsWhole newest log.proofs) };
 }
 
@@ -56,6 +58,6 @@ impl<R: Threads + Wait + Sync> Prover for Together<'_, R> {
     ghost ready = { IsSync R.row };
 
     fn prove(&self, alloc: Global, program: &Program) -> Result<Log, GclFault> {
-        prove_many(alloc, self.rt, program, self.workers.count, &Open)
+        prove_many(self.rt, alloc, program, self.workers.count, &Open)
     }
 }

@@ -2,7 +2,7 @@ ghost use Rattle.std.specs.Prelude.{◌≡◌, ◌≤◌, ◌<◌, ◌⊎◌, �
 ghost use Rattle.desk_io.specs.Causes.{Rose};
 ghost use Rattle.desk_io.specs.Files.{Holds, Lacks};
 ghost use Rattle.poly_model.specs.declared.limits.TheConstants.{MOST_LOG_BYTES};
-ghost use Rattle.log_checker.specs.Checked.{FileJudged, AreAssured, IsCovered};
+ghost use Rattle.log_checker.specs.Checked.{FileJudged, Judged, AreAssured, IsCovered};
 
 use crate::checking::{Checked, check_bytes};
 use crate::fault::CheckFault;
@@ -10,6 +10,22 @@ use assurance::{trees_cover, trees_keep_to_their_variables, verdicts_hold};
 use desk_io::{Desk, DeskFault, read_whole};
 use poly_model::{Domain, MOST_LOG_BYTES};
 use std::alloc::Global;
+
+/// Checks the text of a log that anyone may have written: it is accepted, or its first line at fault is told.
+///
+/// The domain is not used: the call tells what the verdicts mean in it.
+pub fn check_text<D: Domain>(alloc: Global, domain: &D, text: &[u8]) -> Result<Checked, CheckFault>
+    requires { length text.now ≤ MOST_LOG_BYTES }
+    ensures judged { Judged result text.now }
+    ensures assured { IfOk result (λ checked. AreAssured D.operations checked.problems
+        checked.verdicts) }
+    ensures covered { IfOk result (λ checked. IsCovered D.operations checked text.now) }
+{
+    trees_cover(domain);
+    verdicts_hold(domain);
+    trees_keep_to_their_variables();
+    check_bytes(alloc, text)
+}
 
 /// Checks a log that anyone may have written: it is accepted, or its first line at fault is told.
 ///
@@ -37,11 +53,8 @@ pub fn check_log<D: Domain, K: Desk>(
     ensures same { K.held desk.new ≡ K.held desk.old }
     ensures later { K.faults desk.old ≤ K.faults desk.new }
 {
-    trees_cover(domain);
-    verdicts_hold(domain);
-    trees_keep_to_their_variables();
     match read_whole(alloc, desk, name, MOST_LOG_BYTES) {
-        Ok(bytes) => check_bytes(alloc, &bytes),
+        Ok(bytes) => check_text(alloc, domain, &bytes),
         Err(DeskFault::ReadFault) => Err(CheckFault::ReadFault),
         Err(DeskFault::TooLarge) => Err(CheckFault::TooLarge),
         Err(DeskFault::OutOfMemory) => Err(CheckFault::OutOfMemory),

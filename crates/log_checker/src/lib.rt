@@ -27,7 +27,7 @@ mod triangular;
 mod within;
 
 pub use against::check_against;
-pub use check::check_log;
+pub use check::{check_log, check_text};
 pub use checking::Checked;
 pub use fault::CheckFault;
 pub use laws::{findings_are_unique, fitting_is_accepted, pieces_end_in_what_follows};

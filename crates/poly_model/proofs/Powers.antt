@@ -160,7 +160,7 @@ module _ {M : Type 0} {o : Operations M} (L : IsDomain o) where
   stripped_by-zeros i (e ∷ es) p point n =
       let first = here (e == 0) refl in
       let rest = stripped_by-zeros (suc i) es (if e == 0 then p else stripped i p) point
-          (λ j u z. n (suc j) u (ap (at point) (let q : i + suc j ≡ suc i + j = omega arith in q) ∙ z)) in
+      (λ j u z. n (suc j) u (ap (at point) (let q : i + suc j ≡ suc i + j = omega arith in q) ∙ z)) in
       ((λ z. rest.0 (first.0 z)), (λ z. first.1 (rest.1 z)))
     where
       here : (b : Bool) → (e == 0) ≡ b → value_at o p point ≡ o.zero ↔ value_at o (if b then p else stripped i p) point ≡ o.zero

@@ -7,4 +7,5 @@ pub mod PieceLaws
 pub mod Reading
 pub mod Results
 pub mod Unlimited
+pub mod Halving
 pub mod Words

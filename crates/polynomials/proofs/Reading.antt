@@ -1,5 +1,5 @@
 -- What is read off a list of terms: its class, its degrees, its divisor, and whether it is another's.
-use Rattle.std.proofs.Common.{◌≡◌, ◌≢◌, ℕ, ◌+◌, ◌%◌, subst, ◌<◌, ◌≤◌, max, zero, suc, refl, List, [], ◌∷◌, length, take, drop, get_or, sym, ◌∙◌, ap, arith, Bool, true, false, not, ◌&&◌}
+use Rattle.std.proofs.Common.{◌≡◌, ◌≢◌, ℕ, ◌+◌, ◌%◌, subst, ◌<◌, ◌≤◌, max, zero, suc, refl, List, [], ◌∷◌, length, take, drop, get_or, sym, ◌∙◌, ap, arith, Bool, true, false, ◌&&◌}
 use Rattle.std.specs.Prelude.{ℤ, pos, negsuc, ◌==◌, if◌then◌else◌, unsigned_abs}
 use Rattle.std.specs.Int.{IsGcd}
 use Rattle.std.specs.Simd.Lanes.{number_l}

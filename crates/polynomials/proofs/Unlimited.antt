@@ -1,12 +1,12 @@
 -- Products of which no row meets a limit.
-use Rattle.std.proofs.Common.{◌≡◌, ℕ, ◌+◌, ◌*◌, ◌≤◌, zero, suc, refl, List, [], ◌∷◌, length, sym, ◌∙◌, ap, subst, arith, true, false}
-use Rattle.std.specs.Prelude.{ℤ, pos, negsuc, ◌+ℤ◌, ◌*ℤ◌, unsigned_abs, Result, Ok, Err}
+use Rattle.std.proofs.Common.{◌≡◌, ℕ, ◌+◌, ◌*◌, ◌≤◌, zero, suc, refl, List, [], ◌∷◌, length, ◌∙◌, ap, arith, true}
+use Rattle.std.specs.Prelude.{ℤ, pos, negsuc, ◌+ℤ◌, unsigned_abs, Result, Ok, Err}
 use Rattle.std.specs.Cmp.Derive.{both_true}
 use Rattle.std.proofs.lemmas.Bool.{le-leb}
 use Rattle.std.proofs.lemmas.Int.{unsigned_abs-mul, ints}
 use Rattle.std.proofs.Math.Nat.{suc-mul}
 use Rattle.std.specs.declared.cmp.Ordering.TheVariants.{Less, Equal, Greater}
-use Rattle.poly_model.specs.Polynomial.{Polynomial, IsDescending, monomial_cmp, exponents_sum, with_entry, add_entry, poly_sum, poly_product}
+use Rattle.poly_model.specs.Polynomial.{Polynomial, IsDescending, monomial_cmp, with_entry, add_entry, poly_sum, poly_product}
 use Rattle.poly_model.specs.Standard.{are_bounded}
 use Rattle.poly_model.specs.Bounded.{multiple, bounded_row, bounded_rows}
 use Rattle.poly_model.specs.declared.limits.Limit.{Limit}
@@ -41,14 +41,14 @@ sizes-add es c ((fs, d) ∷ p) =
       | Greater ↦ first
     ]
 
-sizes-sum : (p q : Polynomial) → sizes_of (poly_sum p q) ≤ sizes_of p + sizes_of q
+pub sizes-sum : (p q : Polynomial) → sizes_of (poly_sum p q) ≤ sizes_of p + sizes_of q
 sizes-sum [] q = omega arith
 sizes-sum ((es, c) ∷ p) q =
     let first = sizes-add es c (poly_sum p q) in
     let rest = sizes-sum p q in
     omega (arith, first, rest)
 
-sizes-multiple : (es : List ℕ) (c : ℤ) (q : Polynomial) → sizes_of (multiple es c q) ≡ unsigned_abs c * sizes_of q
+pub sizes-multiple : (es : List ℕ) (c : ℤ) (q : Polynomial) → sizes_of (multiple es c q) ≡ unsigned_abs c * sizes_of q
 sizes-multiple es c [] = omega arith
 sizes-multiple es c ((fs, d) ∷ q) =
     let here = unsigned_abs-mul c d in
@@ -65,7 +65,7 @@ sizes-multiple es c ((fs, d) ∷ q) =
         let z = suc-mul a k in
         omega (arith, h, x, y, z)
 
-bounded-sizes : (p : Polynomial) → sizes_of p ≤ MOST_SIZE → are_bounded p ≡ true
+pub bounded-sizes : (p : Polynomial) → sizes_of p ≤ MOST_SIZE → are_bounded p ≡ true
 bounded-sizes [] h = refl
 bounded-sizes ((es, c) ∷ p) h = both_true (le-leb (unsigned_abs c) MOST_SIZE (omega (arith, h))) (bounded-sizes p (omega (arith, h)))
 
@@ -94,6 +94,16 @@ length-sum ((es, c) ∷ p) q =
     let rest = length-sum p q in
     omega (arith, first, rest)
 
+-- ---- products of numbers
+pub sum-times : (a b k : ℕ) → (a + b) * k ≡ a * k + b * k
+sum-times zero b k = let e : zero + b ≡ b = omega arith in ap (λ n. n * k) e ∙ omega arith
+sum-times (suc a) b k =
+    let h = sum-times a b k in
+    let x = suc-mul (a + b) k in
+    let y = suc-mul a k in
+    let e : suc a + b ≡ suc (a + b) = omega arith in
+    ap (λ n. n * k) e ∙ omega (arith, h, x, y)
+
 -- ---- rows
 rows-on : (es : List ℕ) (c : ℤ) (p q sum s : Polynomial) → bounded_row es c q sum ≡ Ok s → bounded_rows ((es, c) ∷ p) q sum ≡ bounded_rows p q s
 rows-on es c p q sum s e = ap (λ r. elim r as (λ _. Result Polynomial Limit) [ Err limit ↦ Err limit | Ok s ↦ bounded_rows p q s ]) e
@@ -116,15 +126,6 @@ rows-unlimited ((es, c) ∷ p) q sum sizes terms =
     ∙ within-ok next (bounded-sizes next (omega (arith, sizes, row_sizes, next_sizes, both))) (omega (arith, terms, row_length, next_length, all)) in
     let rest = rows-unlimited p q next (omega (arith, sizes, row_sizes, next_sizes, both)) (omega (arith, terms, row_length, next_length, all)) in
     (rest.0, rows-on es c p q sum next is ∙ rest.1)
-  where
-    sum-times : (a b k : ℕ) → (a + b) * k ≡ a * k + b * k
-    sum-times zero b k = let e : zero + b ≡ b = omega arith in ap (λ n. n * k) e ∙ omega arith
-    sum-times (suc a) b k =
-        let h = sum-times a b k in
-        let x = suc-mul (a + b) k in
-        let y = suc-mul a k in
-        let e : suc a + b ≡ suc (a + b) = omega arith in
-        ap (λ n. n * k) e ∙ omega (arith, h, x, y)
 
 pub unlimited : (n : ℕ) (p q : Polynomial) → IsDescending n p → IsDescending n q → sizes_of p * sizes_of q ≤ MOST_SIZE → length p * length q ≤ MOST_TERMS
     → bounded_rows p q [] ≡ Ok (poly_product p q)

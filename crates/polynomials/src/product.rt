@@ -9,6 +9,7 @@ ghost use Rattle.poly_model.specs.Bounded.{multiple, bounded_sum, bounded_row, b
 ghost use Rattle.poly_model.proofs.Within.{all_low};
 ghost use Rattle.polynomials.specs.Held.{Outcome, polynomial_at, IsPoly, Answers, Gives};
 
+use crate::halves::{is_unlimited, unlimited_product};
 use crate::poly::Poly;
 use crate::rows::multiple;
 use crate::sums::sum_in;
@@ -47,8 +48,8 @@ fn add_row<S: TermStore>(s: &mut S, factor: &Term, q: Slot, sum: Slot) -> Result
     outcome
 }
 
-/// The rows of a product whose degrees fit.
-pub fn mul_rows<S: TermStore>(s: &mut S, a: Poly, b: Poly) -> Result<Poly, Limit>
+/// The rows of a product whose degrees fit, added one by one.
+fn rows_in_turn<S: TermStore>(s: &mut S, a: Poly, b: Poly) -> Result<Poly, Limit>
     requires a { IsPoly (S.state s.old) a }
     requires b { IsPoly (S.state s.old) b }
     requires room { ARITH_UNITS ≤ (S.state s.old).spare }
@@ -67,4 +68,21 @@ pub fn mul_rows<S: TermStore>(s: &mut S, a: Poly, b: Poly) -> Result<Poly, Limit
         }
     }
     Ok(Poly { slot: sum })
+}
+
+/// The product where the degrees fit, or the limit that its rows meet first.
+pub fn mul_rows<S: TermStore>(s: &mut S, a: Poly, b: Poly) -> Result<Poly, Limit>
+    requires a { IsPoly (S.state s.old) a }
+    requires b { IsPoly (S.state s.old) b }
+    requires room { ARITH_UNITS ≤ (S.state s.old).spare }
+    requires fit { degrees_fit (polynomial_at (S.state s.old) a) (polynomial_at (S.state s.old) b)
+        ≡ true }
+    ensures { Answers (S.state s.old) (S.state s.new) result (bounded_product (polynomial_at
+        (S.state s.old) a) (polynomial_at (S.state s.old) b)) }
+{
+    if is_unlimited(s, a.slot, b.slot) {
+        let slot = unlimited_product(s, a, b);
+        return Ok(Poly { slot });
+    }
+    rows_in_turn(s, a, b)
 }

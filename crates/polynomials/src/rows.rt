@@ -1,4 +1,4 @@
-ghost use Rattle.std.specs.Prelude.{◌≡◌, ◌≢◌, ◌≤◌, ◌<◌, ◌+◌, ◌++◌, ◌∷◌, [], drop, IsTrue, IfSome, IfNone, IfOk, IfErr, OnSome, length, Ok, Err, Some, false, unsigned_abs, ◌+ℤ◌};
+ghost use Rattle.std.specs.Prelude.{◌≡◌, ◌≢◌, ◌≤◌, ◌<◌, ◌+◌, ◌++◌, ◌∷◌, [], drop, IsTrue, IfSome, SomeIff, ◌^◌, IfNone, IfOk, IfErr, OnSome, length, Ok, Err, Some, false, unsigned_abs, ◌+ℤ◌, ◌*ℤ◌};
 ghost use Rattle.polynomials.specs.Summed.{summed};
 ghost use Rattle.poly_model.specs.Polynomial.{IsDescending, poly_sum};
 ghost use Rattle.poly_model.specs.Standard.{polynomial_of, are_low};
@@ -14,6 +14,26 @@ use edge_num::{add_in, mul_in};
 use poly_model::{MOST_VARIABLES, Term, compare_monomials, exponents_sum};
 use std::cmp::Ordering;
 use term_store::{Slot, TermStore};
+
+/// The number has 64 bits.
+fn is_word(a: i128) -> bool
+    ensures { IsTrue result → unsigned_abs a ≤ 2 ^ 63 }
+{
+    i64::MIN as i128 <= a && a <= i64::MAX as i128
+}
+
+/// The product of two coefficients; None exactly where it passes the greatest size. One of two numbers of 64 bits never
+/// does.
+fn product_in(a: i128, b: i128) -> Option<i128>
+    requires a { unsigned_abs a ≤ MOST_SIZE }
+    requires b { unsigned_abs b ≤ MOST_SIZE }
+    ensures { SomeIff result (unsigned_abs (a *ℤ b) ≤ MOST_SIZE) (a *ℤ b) }
+{
+    if is_word(a) && is_word(b) {
+        return Some(a * b);
+    }
+    mul_in(a, b)
+}
 
 /// One term times a list, in a new list; None exactly where a coefficient passes its size.
 pub fn multiple<S: TermStore>(s: &mut S, factor: &Term, q: Slot) -> Option<Slot>
@@ -37,7 +57,7 @@ pub fn multiple<S: TermStore>(s: &mut S, factor: &Term, q: Slot) -> Option<Slot>
     let out = s.fresh();
     for i in 0..count {
         let term = s.get(q, i);
-        let Some(product) = mul_in(factor.coef, term.coef) else {
+        let Some(product) = product_in(factor.coef, term.coef) else {
             s.free(out);
             return None;
         };

@@ -82,7 +82,7 @@ found p ws some =
 -- a path is taken: it is held alone, and waits once less
 pub record Took (h : List (Event Piece)) (path : List Bool) (waiting : List (List Bool)) (done : List (List Bool × Piece)) : Type 0 where
   pub rest : List (List Bool)
-  pub run : replay (h ++ event.Take 1 path ∷ []) ≡ Some (state_is rest (hold path 1 ∷ []) done false)
+  pub run : replay (h ++ event.Take 0 path ∷ []) ≡ Some (state_is rest (hold path 0 ∷ []) done false)
   pub same : (q : List Bool) → times rest q + bit (same_path q path) ≡ times waiting q
 
 pub took : (h : List (Event Piece)) (path : List Bool) (ws : List (List Bool)) (done : List (List Bool × Piece))
@@ -95,29 +95,29 @@ took h path ws done run some =
     let is : get_or ws i [] ≡ path = sym (same_is path (get_or ws i []) here.1) in
     record {
       rest = remove ws i;
-      run = next h (event.Take 1 path) s run ∙ takes_at s 1 path i (position (same_path path) ws) at refl;
+      run = next h (event.Take 0 path) s run ∙ takes_at s 0 path i (position (same_path path) ws) at refl;
       same = λ q.
           subst (λ (r : List Bool). times (remove ws i) q + bit (same_path q r) ≡ times ws q) is
           (sum_by-remove (λ r. cond (same_path q r) 1 0) ws i [] here.0);
     }
 
-held-first : (path : List Bool) → position (is_hold path 1) (hold path 1 ∷ []) ≡ Some 0
+held-first : (path : List Bool) → position (is_hold path 0) (hold path 0 ∷ []) ≡ Some 0
 held-first path = rw (same_itself path) refl
 
 pub left : (h : List (Event Piece)) (path : List Bool) (x : Piece) (ws : List (List Bool)) (done : List (List Bool × Piece))
-    → replay h ≡ Some (state_is ws (hold path 1 ∷ []) done false)
-    → replay (h ++ event.Leaf 1 path x ∷ []) ≡ Some (state_is ws [] (done ++ (path, x) ∷ []) false)
+    → replay h ≡ Some (state_is ws (hold path 0 ∷ []) done false)
+    → replay (h ++ event.Leaf 0 path x ∷ []) ≡ Some (state_is ws [] (done ++ (path, x) ∷ []) false)
 left h path x ws done run =
-    let s : State Piece = state_is ws (hold path 1 ∷ []) done false in
-    next h (event.Leaf 1 path x) s run ∙ leaves_at s path x 0 (position (is_hold path 1) (hold path 1 ∷ [])) (held-first path)
+    let s : State Piece = state_is ws (hold path 0 ∷ []) done false in
+    next h (event.Leaf 0 path x) s run ∙ leaves_at s path x 0 (position (is_hold path 0) (hold path 0 ∷ [])) (held-first path)
 
 pub parted : (h : List (Event Piece)) (path : List Bool) (x : Piece) (ws : List (List Bool)) (done : List (List Bool × Piece)) → length path < MOST_LETTERS
-    → replay h ≡ Some (state_is ws (hold path 1 ∷ []) done false)
-    → replay (h ++ event.Split 1 path x ∷ [])
+    → replay h ≡ Some (state_is ws (hold path 0 ∷ []) done false)
+    → replay (h ++ event.Split 0 path x ∷ [])
     ≡ Some (state_is (ws ++ (path ++ true ∷ []) ∷ (path ++ false ∷ []) ∷ []) [] (done ++ (path, x) ∷ []) false)
 parted h path x ws done short run =
-    let s : State Piece = state_is ws (hold path 1 ∷ []) done false in
-    next h (event.Split 1 path x) s run ∙ splits_at s path x 0 (position (is_hold path 1) (hold path 1 ∷ [])) (held-first path) short
+    let s : State Piece = state_is ws (hold path 0 ∷ []) done false in
+    next h (event.Split 0 path x) s run ∙ splits_at s path x 0 (position (is_hold path 0) (hold path 0 ∷ [])) (held-first path) short
 
 -- what leads to a state is not impossible
 pub possible : (h : List (Event Piece)) (s : State Piece) → replay h ≡ Some s → replay h ≡ None → ⊥
@@ -146,7 +146,7 @@ children-at cons root n p (Some q) a e =
 
 -- the event that ends a node's path is one of the tree
 abbrev ends : List Bool → Piece → Bool → Event Piece
-ends path p splits = cond splits (event.Split 1 path p) (event.Leaf 1 path p)
+ends path p splits = cond splits (event.Split 0 path p) (event.Leaf 0 path p)
 
 end-of : (cons : List Polynomial) (root n : Node) (p : Piece) (o : Option (Node × Node)) → IsAt cons root n → IsExpanded cons n p o
     → IsOf (branches_of cons root) (ends n.path p (is_some o))
@@ -181,31 +181,31 @@ short cons n p (Some q) e h = e.paths.2
 
 pub turned : (cons : List Polynomial) (root : Node) (h : List (Event Piece)) (s : List Node) (n : Node) (p : Piece) (o : Option (Node × Node))
     → AreTurns cons root h (s ++ n ∷ []) → IsExpanded cons n p o
-    → AreTurns cons root (h ++ event.Take 1 n.path ∷ ends n.path p (is_some o) ∷ []) (s ++ piled o)
+    → AreTurns cons root (h ++ event.Take 0 n.path ∷ ends n.path p (is_some o) ∷ []) (s ++ piled o)
 turned cons root h s n p o w e =
     let x = on-top cons root h s n w in
     let k = took h n.path w.waiting w.done w.run (waits-on-top cons root h s n w) in
     let tree = branches_of cons root in
-    let took-one : List (Event Piece) = h ++ event.Take 1 n.path ∷ [] in
-    let on : took-one ++ ends n.path p (is_some o) ∷ [] ≡ h ++ event.Take 1 n.path ∷ ends n.path p (is_some o) ∷ [] =
-    append_assoc h (event.Take 1 n.path ∷ []) (ends n.path p (is_some o) ∷ []) in
-    let of = are_of_snoc tree took-one (ends n.path p (is_some o)) (are_of_snoc tree h (event.Take 1 n.path) w.of tt) (end-of cons root n p o x.at e) in
+    let took-one : List (Event Piece) = h ++ event.Take 0 n.path ∷ [] in
+    let on : took-one ++ ends n.path p (is_some o) ∷ [] ≡ h ++ event.Take 0 n.path ∷ ends n.path p (is_some o) ∷ [] =
+    append_assoc h (event.Take 0 n.path ∷ []) (ends n.path p (is_some o) ∷ []) in
+    let of = are_of_snoc tree took-one (ends n.path p (is_some o)) (are_of_snoc tree h (event.Take 0 n.path) w.of tt) (end-of cons root n p o x.at e) in
     let at = at-append cons root s (piled o) (at-last cons root s n w.at).0 (children-at cons root n p o x.at e) in
     let less = λ (q : List Bool).
     (let r : times k.rest q ≡ times_on s q =
     omega (arith, k.same q, w.same q, sum_by_push (λ (m : Node). cond (same_path q m.path) 1 0) s n) in r) in
     by o (subst (AreOf tree) on of) at e k.run less on
   where
-    by : (o : Option (Node × Node)) → AreOf (branches_of cons root) (h ++ event.Take 1 n.path ∷ ends n.path p (is_some o) ∷ [])
+    by : (o : Option (Node × Node)) → AreOf (branches_of cons root) (h ++ event.Take 0 n.path ∷ ends n.path p (is_some o) ∷ [])
         → AreAt cons root (s ++ piled o) → IsExpanded cons n p o → {rest : List (List Bool)} → {done : List (List Bool × Piece)}
-        → replay (h ++ event.Take 1 n.path ∷ []) ≡ Some (state_is rest (hold n.path 1 ∷ []) done false)
+        → replay (h ++ event.Take 0 n.path ∷ []) ≡ Some (state_is rest (hold n.path 0 ∷ []) done false)
         → ((q : List Bool) → times rest q ≡ times_on s q)
-        → (h ++ event.Take 1 n.path ∷ []) ++ ends n.path p (is_some o) ∷ [] ≡ h ++ event.Take 1 n.path ∷ ends n.path p (is_some o) ∷ []
-        → AreTurns cons root (h ++ event.Take 1 n.path ∷ ends n.path p (is_some o) ∷ []) (s ++ piled o)
+        → (h ++ event.Take 0 n.path ∷ []) ++ ends n.path p (is_some o) ∷ [] ≡ h ++ event.Take 0 n.path ∷ ends n.path p (is_some o) ∷ []
+        → AreTurns cons root (h ++ event.Take 0 n.path ∷ ends n.path p (is_some o) ∷ []) (s ++ piled o)
     by None of at e {rest} {done} run less on = record {
       waiting = rest;
       done = done ++ (n.path, p) ∷ [];
-      run = ap replay (sym on) ∙ left (h ++ event.Take 1 n.path ∷ []) n.path p rest done run;
+      run = ap replay (sym on) ∙ left (h ++ event.Take 0 n.path ∷ []) n.path p rest done run;
       same = λ q. less q ∙ ap (λ (l : List Node). times_on l q) (sym (append-nil s));
       at = at;
       of = of;
@@ -213,7 +213,7 @@ turned cons root h s n p o w e =
     by (Some c) of at e {rest} {done} run less on = record {
       waiting = rest ++ (n.path ++ true ∷ []) ∷ (n.path ++ false ∷ []) ∷ [];
       done = done ++ (n.path, p) ∷ [];
-      run = ap replay (sym on) ∙ parted (h ++ event.Take 1 n.path ∷ []) n.path p rest done e.paths.2 run;
+      run = ap replay (sym on) ∙ parted (h ++ event.Take 0 n.path ∷ []) n.path p rest done e.paths.2 run;
       same = λ q.
           let a = sum_by-append (λ r. cond (same_path q r) 1 0) rest ((n.path ++ true ∷ []) ∷ (n.path ++ false ∷ []) ∷ []) in
           let b = sum_by-append (λ (m : Node). cond (same_path q m.path) 1 0) s (c.1 ∷ c.0 ∷ []) in

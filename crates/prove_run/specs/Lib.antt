@@ -3,3 +3,4 @@ pub mod Whole
 pub mod Ready
 pub mod Branches
 pub mod Turns
+pub mod Rooms

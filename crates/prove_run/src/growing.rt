@@ -26,14 +26,14 @@ fn push_children(waiting: &mut Vec<Node>, children: Option<(Node, Node)>) -> Res
     Ok(())
 }
 
-/// A waiting path is taken, and ends with its piece. Fails for want of memory alone.
+/// A waiting path is taken, by worker 0, and ends with its piece. Fails for want of memory alone.
 fn turn(book: &mut Book<Piece>, path: Path, piece: Piece, splits: bool) -> Result<(), AllocError>
     requires may { MayTurn book.old path }
     requires short { splits ≡ true → length path < MOST_LETTERS }
-    ensures { OnOk result (book.new ≡ book.old ++ event.Take 1 path
-        ∷ cond splits (event.Split 1 path piece) (event.Leaf 1 path piece) ∷ []) }
+    ensures { OnOk result (book.new ≡ book.old ++ event.Take 0 path
+        ∷ cond splits (event.Split 0 path piece) (event.Leaf 0 path piece) ∷ []) }
 {
-    let Ok(ticket) = book.take(1, path) else {
+    let Ok(ticket) = book.take(0, path) else {
         unreachable!()
     };
     if !splits {

@@ -8,6 +8,6 @@ mod proving;
 mod room;
 mod working;
 
-pub use laws::{accepted_logs_are_whole, logs_of_problems_are_accepted};
+pub use laws::{accepted_logs_are_whole, logs_of_problems_are_accepted, rooms_suffice};
 pub use many::{MOST_WORKERS, prove_many};
 pub use proving::prove_one;

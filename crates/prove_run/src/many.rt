@@ -81,8 +81,8 @@ fn prove_all<G: Gate + Sync, R: Threads + Wait + Sync>(
 /// It is the log that `prove_one` gives, whatever the number of workers, the gate and the schedule, and is refused as there.
 /// For each prove the gate is passed once after each take of a node, by the worker that took it.
 pub fn prove_many<G: Gate + Sync, R: Threads + Wait + Sync>(
-    alloc: Global,
     rt: &R,
+    alloc: Global,
     program: &Program,
     workers: u32,
     gate: &G,

@@ -15,14 +15,14 @@ ghost use Rattle.prove_run.specs.Logs.{log_of, log_of_program, newest, proof_of,
 ghost use Rattle.prove_run.specs.Whole.{IsPosed, IsWhole};
 
 use crate::growing::grow;
-use crate::room::roomy_store;
 use algebraize::problems;
 use gcl_names::Program;
 use gcl_reader::GclFault;
-use poly_model::{MOST_FUEL, OwnedPoly, Row};
+use poly_model::{EXPAND_UNITS, MOST_FUEL, OwnedPoly, Row};
 use proof_log::{Log, Proof};
 use proof_steps::{Node, Path, Piece, Problem, Tree, VERSION};
 use std::alloc::{AllocError, Global};
+use term_region::TermRegion;
 use term_store::TermStore;
 use verdicts::judge;
 
@@ -84,7 +84,7 @@ fn prove<S: TermStore>(
     judged(alloc, problem, pieces)
 }
 
-/// The log of the problems: each has an equal share of the fuel, and all have one store.
+/// The log of the problems: each has an equal share of the fuel, and all have one region.
 fn prove_all(alloc: Global, problems: Vec<Problem>) -> Result<Vec<Proof>, AllocError>
     requires few { length problems.items ≤ MOST_PROOFS }
     requires stated { All IsStated problems.items }
@@ -96,7 +96,7 @@ fn prove_all(alloc: Global, problems: Vec<Problem>) -> Result<Vec<Proof>, AllocE
         return Ok(proofs);
     }
     let fuel = MOST_FUEL / problems.len() as u32;
-    let mut store = roomy_store(alloc)?;
+    let mut store = TermRegion::open(alloc, EXPAND_UNITS)?;
     for problem in problems {
         proofs.push(prove(alloc, &mut store, problem, fuel)?)?;
     }

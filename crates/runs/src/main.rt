@@ -1,17 +1,34 @@
-//! Whole runs of the program, as tables: runs each row over files and sinks in memory, and names the rows that come out
-//! otherwise than their table says.
+//! Whole runs of the program, as tables, and rows of single calls: runs each over files and sinks in memory, and names those that
+//! come out otherwise than worked. With three words, an operation on polynomials of many terms is done so many times instead, so that
+//! its instructions can be counted.
 #![tactic(auto)]
 
+mod arithmetic;
 mod case;
+mod dense;
 mod direct;
+mod files;
+mod held;
+mod hold;
+mod integers;
+mod memory;
+mod operation;
 mod table;
 
-use anyhow::Result;
-use std::fs;
+use anyhow::{Result, bail};
+use dense::{Block, polynomial};
+use operation::{Operation, answer, division};
+use poly_model::OwnedPoly;
+use std::alloc::Global;
 use std::rt::Files;
 use std::sync::Wait;
 use std::thread::Threads;
+use std::{env, fs};
 use table::Table;
+use term_store::VecStore;
+
+/// The fuel for one division.
+const FUEL: u32 = 10_000;
 
 // Runs the rows of a table, and gives the number of those that came out as it says.
 fn run_table<R: Files + AllocGlobal + Print + Threads + Wait + Sync>(
@@ -35,13 +52,95 @@ fn run_table<R: Files + AllocGlobal + Print + Threads + Wait + Sync>(
     Ok(good)
 }
 
+// The rows of single calls.
+fn check_calls<R: Files + AllocGlobal>(rt: &R) -> Result<()> {
+    let alloc = rt.alloc();
+    integers::check_all()?;
+    memory::check_reads(alloc)?;
+    memory::check_whole_files(alloc)?;
+    memory::check_pens(alloc)?;
+    files::check_file(rt)?;
+    files::check_read_only(rt)?;
+    let mut store = VecStore::new(alloc)?;
+    arithmetic::check_all(alloc, &mut store)?;
+    direct::check_books(alloc)?;
+    direct::check_bytes_of_a_log(alloc, &fs::read(rt, "logs/midline.log")?, 20)?;
+    direct::check_refusals(alloc)
+}
+
+/// The operands of the operation with this name, of so many monomials in a row.
+fn operands(alloc: Global, name: &str, width: u8) -> Result<(OwnedPoly, OwnedPoly)> {
+    let square = Block::square(width, 1);
+    let other = Block::square(width, 7);
+    match name {
+        "add" => Ok((
+            polynomial(alloc, &[Block { step: 2, ..square }])?,
+            polynomial(
+                alloc,
+                &[Block {
+                    step: 2,
+                    first: 1,
+                    ..other
+                }],
+            )?,
+        )),
+        "mul" => Ok((polynomial(alloc, &[square])?, polynomial(alloc, &[other])?)),
+        "red" => Ok((
+            polynomial(alloc, &[Block { top: 1, ..square }, other])?,
+            polynomial(alloc, &[Block { top: 1, ..other }, Block::square(width, 3)])?,
+        )),
+        _ => bail!("this is no operation"),
+    }
+}
+
+/// The terms of the result.
+fn terms(
+    alloc: Global,
+    s: &mut VecStore,
+    name: &str,
+    a: &OwnedPoly,
+    b: &OwnedPoly,
+) -> Result<usize> {
+    let operation = match name {
+        "add" => Operation::Add,
+        "mul" => Operation::Mul,
+        _ => {
+            let (_, rest) = division(alloc, s, a, b, FUEL)?;
+            return Ok(rest.terms().len());
+        }
+    };
+    match answer(alloc, s, operation, a, b)? {
+        Ok(result) => Ok(result.terms().len()),
+        Err(_) => bail!("a limit is met"),
+    }
+}
+
+// The terms of the result of an operation that is done so many times.
+fn repeat(alloc: Global, name: &str, width: u8, times: u32) -> Result<usize> {
+    let (a, b) = operands(alloc, name, width)?;
+    let mut size = 0;
+    for _ in 0..times {
+        let mut store = VecStore::new(alloc)?;
+        size = terms(alloc, &mut store, name, &a, &b)?;
+    }
+    Ok(size)
+}
+
 fn main(rt: HostRuntime) -> Result<()> {
+    let alloc = rt.alloc();
+    let words: Vec<String> = env::args(&rt)?.skip(1).collect(alloc)?;
+    if let [name, width, times] = words.as_slice() {
+        let size = repeat(alloc, name, width.parse()?, times.parse()?)?;
+        println!(rt; "{size} terms")?;
+        return Ok(());
+    }
     let runs = run_table(&rt, "runs.txt")?;
     let logs = run_table(&rt, "logs.txt")?;
-    let alloc = rt.alloc();
-    direct::check_books(alloc)?;
-    direct::check_bytes_of_a_log(alloc, &fs::read(&rt, "logs/midline.log")?, 20)?;
-    direct::check_refusals(alloc)?;
     println!(rt; "{runs} runs and {logs} over logs as the tables say")?;
+    check_calls(&rt)?;
+    println!(rt; "all single calls are as worked")?;
+    let file = fs::read(&rt, "logs/altitudes.gcl")?;
+    let good = held::count_good(&rt, alloc, &file, &fs::read(&rt, "logs/altitudes.log")?)?;
+    println!(rt; "{good} of 4 runs with a held branch")?;
     Ok(())
 }

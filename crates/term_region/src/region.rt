@@ -20,6 +20,5 @@ pub struct TermRegion {
     pub(crate) spare: usize,
     pub(crate) total: usize,
     ghost kept: { Kept (length terms.items) runs.items order.items vacant.items newest spare total
-        (vec_capacity terms) (vec_capacity runs) (vec_capacity order) (vec_capacity vacant) } by {
-        Kept-prop _ _ _ _ _ _ _ _ _ _ _ },
+        (vec_capacity terms) (vec_capacity runs) (vec_capacity order) (vec_capacity vacant) } by { Kept-prop _ _ _ _ _ _ _ _ _ _ _ },
 }

@@ -9,18 +9,17 @@ use Rattle.algebraize.proofs.Stated.{stated_problem}
 use Rattle.algebraize.proofs.Proves as proves
 use Rattle.gcl_names.specs.Sound.{nothing, Counts, after_all}
 use Rattle.gcl_names.specs.declared.program.Act.{Act}
-use Rattle.algebraize.specs.Problem.{is_prove, problem_of, problem_at, problem_between, MeanBetween, MeanProve}
-use Rattle.algebraize.specs.Equations.{Mean, Equations}
+use Rattle.algebraize.specs.Problem.{is_prove, problem_of, problem_at, problem_between}
+use Rattle.algebraize.specs.Equations.{Equations}
 use Rattle.gcl_reader.specs.Grammar.{Gives}
 use Rattle.algebraize.specs.Formed.{equations}
-use Rattle.algebraize.proofs.Meaning.{equations_mean}
 use Rattle.algebraize.proofs.problem.system_of.Goals as goal
 
 asked_below : (slice acts : List Act) (k n : ℕ) → slice ≡ acts → (after_all nothing acts).proves ≡ n → k < n → 0 + k < (after_all nothing slice).proves
 asked_below slice acts k n same counts lt = omega (arith, ap (λ l. (after_all nothing l).proves) same, counts, lt)
 
 pub offset_bounds-acts-place : goal.offset_bounds-acts-place
-offset_bounds-acts-place g c =
+offset_bounds-acts-place c =
     let slice = c.as_slice-acts.result.now in
     let i = c.acts_before-place.result in
     let there = c.acts_before-place.ensures in
@@ -28,7 +27,7 @@ offset_bounds-acts-place g c =
     omega (arith, below, c.as_slice-acts.type_inv)
 
 pub bounds-acts-place : goal.bounds-acts-place
-bounds-acts-place g c =
+bounds-acts-place c =
     let slice = c.as_slice-acts.result.now in
     let i = c.acts_before-place.result in
     let there = c.acts_before-place.ensures in
@@ -36,7 +35,7 @@ bounds-acts-place g c =
     below
 
 pub slice_bounds-problem_at-end : goal.slice_bounds-problem_at-end
-slice_bounds-problem_at-end g c =
+slice_bounds-problem_at-end c =
     let slice = c.as_slice-acts.result.now in
     let i = c.acts_before-place.result in
     let there = c.acts_before-place.ensures in
@@ -44,7 +43,7 @@ slice_bounds-problem_at-end g c =
     omega (arith, below, length-take i slice)
 
 pub unreachable-requires : goal.unreachable-requires
-unreachable-requires g c =
+unreachable-requires c =
     let slice = c.as_slice-acts.result.now in
     let act = c.index-acts-place.result in
     let asked = proves.place_of_prove nothing slice c.args.prove act (asked_below slice c.args.program.now.acts c.args.prove _ c.as_slice-acts.ensures (ap (λ (n : Counts). n.proves) c.requires.sound.counts) c.requires.prove) in
@@ -53,7 +52,7 @@ unreachable-requires g c =
     c.in_default.not-Prove
 
 pub returns-clause-value : goal.returns-clause-value
-returns-clause-value g c =
+returns-clause-value c =
     let slice = c.as_slice-acts.result.now in
     let i = c.acts_before-place.result in
     let there = c.acts_before-place.ensures in
@@ -67,25 +66,8 @@ returns-clause-value g c =
     ∙ ap (λ k. problem_between (take k slice) (drop k slice)) there ∙ ap (λ l. problem_of l c.args.prove) c.as_slice-acts.ensures)
     c.problem_at.ensures.value
 
-pub returns-clause-mean : goal.returns-clause-mean
-returns-clause-mean g c =
-    let slice = c.as_slice-acts.result.now in
-    let i = c.acts_before-place.result in
-    let there = c.acts_before-place.ensures in
-    let below = subst (λ k. k < length slice) (sym there) (proves.place_below nothing slice c.args.prove (asked_below slice c.args.program.now.acts c.args.prove _ c.as_slice-acts.ensures (ap (λ (n : Counts). n.proves) c.requires.sound.counts) c.requires.prove)) in
-    let before = take i slice in
-    let act = c.index-acts-place.result in
-    let s = c.in-Prove.statement in
-    let ps = c.in-Prove.points in
-    let o = g.D.Domain.operations in
-    proves.gives_ok c.problem_at.result (problem_at before act s c.as_slice.result.now) c.problem_at.ensures.value (λ p is.
-    let h = proves.problem_at-ok before act s ps (equations p) (ap (problem_at before act s) (sym c.as_slice.ensures) ∙ is) in
-    let m = subst (Mean o before s ps) (sym h.0) (equations_mean g.D.Domain.laws before s ps h.1) in
-    let b = proves.mean_between o before slice i act s ps (equations p) below c.index-acts-place.is c.in-Prove.is m in
-    subst (λ l. MeanProve o l c.args.prove (equations p)) c.as_slice-acts.ensures (subst (λ k. MeanBetween o (take k slice) (drop k slice) (equations p)) there b))
-
 pub returns-clause-own : goal.returns-clause-own
-returns-clause-own g c =
+returns-clause-own c =
     let before = take c.acts_before-place.result c.as_slice-acts.result.now in
     let s = c.in-Prove.statement in
     let ps = c.as_slice.result.now in
@@ -95,7 +77,7 @@ returns-clause-own g c =
     (both_true (over.over_hypotheses before) (over.over_conclusions before s ps)))
 
 pub returns-clause-stated : goal.returns-clause-stated
-returns-clause-stated g c =
+returns-clause-stated c =
     let before = take c.acts_before-place.result c.as_slice-acts.result.now in
     let s = c.in-Prove.statement in
     let ps = c.as_slice.result.now in
@@ -104,7 +86,7 @@ returns-clause-stated g c =
     stated_problem before s ps p h.0 h.1 within)
 
 pub returns-clause-quadratic : goal.returns-clause-quadratic
-returns-clause-quadratic g c =
+returns-clause-quadratic c =
     let before = take c.acts_before-place.result c.as_slice-acts.result.now in
     let s = c.in-Prove.statement in
     let ps = c.as_slice.result.now in

@@ -1,5 +1,5 @@
 use Rattle.std.proofs.Common.{sym, ◌∙◌, ap, subst}
-use Rattle.poly_model.specs.Powers.{low_at, lowered, stripped}
+use Rattle.poly_model.specs.Powers.{lowered, stripped}
 use Rattle.poly_model.proofs.Powers.{AllReach, low-reached}
 use Rattle.poly_model.proofs.PowersWithin.{stripped-within}
 use Rattle.poly_model.proofs.Within.{within-of, standard-of}

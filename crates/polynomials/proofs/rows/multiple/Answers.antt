@@ -40,8 +40,8 @@ free-requires g c = making.makes-live _ _ _ c.loop-i.invariant.made
 pub returns-in_default-clause-kept : goal.returns-in_default-clause-kept
 returns-in_default-clause-kept g c = making.makes-freed _ _ _ _ c.loop-i.invariant.made c.free.ensures.lists c.free.ensures.spare
 
-pub mul_in-requires-clause-b : goal.mul_in-requires-clause-b
-mul_in-requires-clause-b g c =
+pub product_in-requires-clause-b : goal.product_in-requires-clause-b
+product_in-requires-clause-b g c =
     let qs = list_at (g.S.TermStore.state c.args.s.now).lists c.args.q.0 in
     let same = making.makes-other _ _ _ _ c.loop-i.invariant.made c.requires.live in
     let t = c.get-term.result in

@@ -1,6 +1,6 @@
 use Rattle.std.proofs.Common.{◌≤◌, All}
 use Rattle.poly_model.specs.declared.limits.TheConstants.{EXPAND_UNITS}
-use Rattle.term_store.specs.Holding.{held_by}
+use Rattle.term_region.specs.Holding.{held_by}
 use Rattle.proof_steps.specs.Stated.{IsStated}
 use Rattle.prove_run.proofs.Proved.{AreProved}
 use Rattle.prove_run.proofs.proving.prove_all.Given as goal
