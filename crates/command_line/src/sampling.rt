@@ -62,6 +62,15 @@ fn write_values<S: Sink>(point: &[i128], pen: &mut Pen, sink: &mut S) -> Result<
     Ok(())
 }
 
+fn write_sample<S: Sink>(point: &[i128], pen: &mut Pen, sink: &mut S) -> Result<(), Failed>
+    ensures bytes { Writes (S.written sink.old) (S.written sink.new) pen.old pen.new result
+        (codes "sample" ++ values_text point.now) }
+    ensures cause { HasCause (S.faults sink.old) (S.faults sink.new) result }
+{
+    pen.push(sink, b"sample")?;
+    write_values(point, pen, sink)
+}
+
 fn write_refuted<S: Sink>(k: u8, point: &[i128], pen: &mut Pen, sink: &mut S) -> Result<(), Failed>
     ensures bytes { Writes (S.written sink.old) (S.written sink.new) pen.old pen.new result
         (codes "refuted " ++ decimal k ++ values_text point.now) }
@@ -79,10 +88,7 @@ fn write_found<S: Sink>(found: &Found, pen: &mut Pen, sink: &mut S) -> Result<()
     ensures cause { HasCause (S.faults sink.old) (S.faults sink.new) result }
 {
     match found {
-        Found::Sample(point) => {
-            pen.push(sink, b"sample")?;
-            write_values(point.as_slice(), pen, sink)
-        }
+        Found::Sample(point) => write_sample(point.as_slice(), pen, sink),
         Found::Refuted { k, point } => write_refuted(*k, point.as_slice(), pen, sink),
         Found::Nothing => pen.push(sink, b"nothing"),
     }
