@@ -13,4 +13,3 @@ mod FileLogs
 mod Assured
 mod Figures
 mod Headline
-pub mod Trials
