@@ -3,7 +3,6 @@ use anyhow::{Result, bail};
 use branch_core::{Book, Gone, Idle, PathState};
 use gcl_names::resolve;
 use gcl_reader::{GclFault, Kind, MOST_BYTES, Refusal, read};
-use proof_log::LogReader;
 use proof_steps::Path;
 use std::alloc::Global;
 
@@ -51,21 +50,6 @@ pub fn check_books(alloc: Global) -> Result<()> {
     };
     if refused(&mut other, 4) != Some(stopped) {
         bail!("a book that is stopped: another answer");
-    }
-    Ok(())
-}
-
-/// A log that comes byte by byte is read to its end, line by line.
-pub fn check_bytes_of_a_log(alloc: Global, text: &[u8], count: usize) -> Result<()> {
-    let mut reader = LogReader::new(alloc)?;
-    let mut lines = Vec::new(alloc);
-    for byte in text {
-        if reader.feed(&[*byte], &mut lines).is_err() {
-            bail!("a log that comes byte by byte is refused");
-        }
-    }
-    if reader.finish().is_err() || lines.len() != count {
-        bail!("a log that comes byte by byte has other lines");
     }
     Ok(())
 }

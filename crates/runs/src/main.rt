@@ -64,7 +64,6 @@ fn check_calls<R: Files + AllocGlobal>(rt: &R) -> Result<()> {
     let mut store = VecStore::new(alloc)?;
     arithmetic::check_all(alloc, &mut store)?;
     direct::check_books(alloc)?;
-    direct::check_bytes_of_a_log(alloc, &fs::read(rt, "logs/midline.log")?, 20)?;
     direct::check_refusals(alloc)
 }
 
