@@ -6,7 +6,6 @@
 mod arithmetic;
 mod case;
 mod dense;
-mod direct;
 mod files;
 mod held;
 mod hold;
@@ -62,9 +61,7 @@ fn check_calls<R: Files + AllocGlobal>(rt: &R) -> Result<()> {
     files::check_file(rt)?;
     files::check_read_only(rt)?;
     let mut store = VecStore::new(alloc)?;
-    arithmetic::check_all(alloc, &mut store)?;
-    direct::check_books(alloc)?;
-    direct::check_refusals(alloc)
+    arithmetic::check_all(alloc, &mut store)
 }
 
 /// The operands of the operation with this name, of so many monomials in a row.
