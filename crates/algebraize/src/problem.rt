@@ -72,7 +72,7 @@ fn problem_at(
 
 /// How many acts stand before a prove, counted from 0; all of them, where there is no such prove.
 #[tactic(auto, unfolding(crate::specs::Problem::acts_before))]
-fn acts_before(acts: &[Act], prove: u32) -> usize
+pub fn acts_before(acts: &[Act], prove: u32) -> usize
     ensures { result ≡ acts_before prove acts.now }
 {
     let mut left = prove;

@@ -25,6 +25,7 @@ kind_text kind.TooManyVars = codes "TooManyVars"
 kind_text kind.NoMeet = codes "NoMeet"
 kind_text kind.SamePoints = codes "SamePoints"
 kind_text kind.OutOfRange = codes "OutOfRange"
+kind_text kind.BadFigure = codes "BadFigure"
 
 -- A blank and the first 40 bytes of the token at fault; nothing where there is no token.
 abbrev pub token_text : List ℕ → Refusal → List ℕ

@@ -33,6 +33,7 @@ fn kind_name(kind: Kind) -> &'static str
         Kind::NoMeet => "NoMeet",
         Kind::SamePoints => "SamePoints",
         Kind::OutOfRange => "OutOfRange",
+        Kind::BadFigure => "BadFigure",
     }
 }
 

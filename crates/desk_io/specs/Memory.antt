@@ -3,10 +3,11 @@ use Rattle.std.specs.Prelude.{◌≡◌, ℕ, ◌+◌, ◌-◌, ◌^◌, ◌&&�
 use Rattle.std.specs.List.{list_any}
 use Rattle.desk_io.specs.Files.{Files, file_of}
 
--- A desk: its files, the numbers of the reads that fail, how many reads there were, and how many of them failed by
--- their number.
+-- A desk: its files, how many bytes a read gives at most, the numbers of the reads that fail, how many reads there were, and
+-- how many of them failed by their number.
 pub record DeskState : Type 0 where
   pub files : Files
+  pub most : ℕ
   pub failing : List ℕ
   pub reads : ℕ
   pub faults : ℕ
@@ -47,7 +48,7 @@ bytes_from offset room (Some file) = Some (take room (drop offset file))
 
 -- The bytes that a read gives, or `None` where it fails: by its number, or since there is no such file.
 abbrev pub read_bytes : DeskState → List ℕ → ℕ → ℕ → Option (List ℕ)
-read_bytes desk name offset room = cond (read_fails desk) None (bytes_from offset room (file_of desk.files name))
+read_bytes desk name offset room = cond (read_fails desk) None (bytes_from offset (min room desk.most) (file_of desk.files name))
 
 -- What a call that reads answers and leaves in the piece: the bytes stand at its front, and the rest is as before. Where
 -- it fails, the piece is as before.

@@ -1,5 +1,5 @@
 // A desk and a sink in memory, which fail at the numbers that they are given: test doubles whose contracts are exact.
-ghost use Rattle.std.specs.Prelude.{◌≡◌, ◌≤◌, ◌<◌, ◌+◌, ◌-◌, ◌⊎◌, ◌↔◌, ◌||◌, ◌++◌, ◌==◌, List, [], ℕ, Option, Some, None, MatchOption, length, take, drop, min, map, true, false, IsTrue, is_none, is_err, IfOk, OnOk, OnErr};
+ghost use Rattle.std.specs.Prelude.{◌≡◌, ◌≤◌, ◌<◌, ◌+◌, ◌-◌, ◌^◌, ◌⊎◌, ◌↔◌, ◌||◌, ◌++◌, ◌==◌, List, [], ℕ, Option, Some, None, MatchOption, length, take, drop, min, map, true, false, IsTrue, is_none, is_err, IfOk, OnOk, OnErr};
 ghost use Rattle.std.specs.List.{list_any};
 ghost use Rattle.std.specs.Io.{ReadsAtMost};
 ghost use Rattle.std.specs.String.{string_bytes};
@@ -13,10 +13,12 @@ use std::marker::Model;
 
 /// A desk over a list of files, for tests and for whoever holds the files already.
 ///
-/// It tells what it holds. Its reads fail at the numbers that it was given, the first read being number 1.
+/// It tells what it holds. Its reads fail at the numbers that it was given, the first read being number 1, and each gives at
+/// most so many bytes.
 #[derive(Debug, Drop)]
 pub struct MemDesk {
     files: Vec<(String, Vec<u8>)>,
+    most: usize,
     failing: Vec<u64>,
     reads: u64,
     faults: u64,
@@ -24,17 +26,20 @@ pub struct MemDesk {
 
 impl Model for MemDesk {
     ghost use Rattle.desk_io.specs.Memory.{DeskState};
-    ghost use Rattle.std.specs.Prelude.{map};
+    ghost use Rattle.std.specs.Prelude.{map, ◌<◌};
     ghost use Rattle.std.specs.String.{string_bytes};
 
     ghost Value = { DeskState };
 
     ghost view = { λ desk. record {
       files = map (λ file. (string_bytes file.0, file.1.items)) desk.files.items;
+      most = desk.most;
       failing = desk.failing.items;
       reads = desk.reads;
       faults = desk.faults;
     } };
+
+    ghost invariant = { λ desk. 0 < desk.most };
 }
 
 // The bytes under a name.
@@ -52,17 +57,17 @@ fn find_file<'a>(files: &'a [(String, Vec<u8>)], name: &str) -> Option<&'a Vec<u
     None
 }
 
-// Copies as much of the file, from an offset on, as there is room for.
-fn copy_from(file: &[u8], from: u64, piece: &mut [u8]) -> usize
-    ensures count { result ≡ length (take (length piece.old) (drop from file.now)) }
-    ensures bytes { piece.new
-        ≡ take (length piece.old) (drop from file.now) ++ drop result piece.old }
+// Copies as much of the file, from an offset on, as there is room for, and at most so many bytes.
+fn copy_from(file: &[u8], from: u64, most: usize, piece: &mut [u8]) -> usize
+    ensures count { result ≡ length (take (min (length piece.old) most) (drop from file.now)) }
+    ensures bytes { piece.new ≡ take (min (length piece.old) most) (drop from file.now)
+        ++ drop result piece.old }
 {
     if from >= file.len() as u64 {
         return 0;
     }
     let rest = &file[from as usize..];
-    let count = rest.len().min(piece.len());
+    let count = rest.len().min(piece.len()).min(most);
     piece[..count].copy_from_slice(&rest[..count]);
     count
 }
@@ -81,6 +86,21 @@ impl MemDesk {
     pub fn new(files: Vec<(String, Vec<u8>)>, fails: Vec<u64>) -> MemDesk
         ensures { result ≡ record {
           files = map (λ file. (string_bytes file.0, file.1.items)) files.items;
+          most = 2 ^ 64 - 1;
+          failing = fails.items;
+          reads = 0;
+          faults = 0;
+        } }
+    {
+        MemDesk::cut(files, fails, usize::MAX)
+    }
+
+    /// The same, each of whose reads gives at most so many bytes.
+    pub fn cut(files: Vec<(String, Vec<u8>)>, fails: Vec<u64>, most: usize) -> MemDesk
+        requires { 0 < most }
+        ensures { result ≡ record {
+          files = map (λ file. (string_bytes file.0, file.1.items)) files.items;
+          most = most;
           failing = fails.items;
           reads = 0;
           faults = 0;
@@ -88,6 +108,7 @@ impl MemDesk {
     {
         MemDesk {
             files,
+            most,
             failing: fails,
             reads: 0,
             faults: 0,
@@ -127,7 +148,7 @@ impl Desk for MemDesk {
         let Some(bytes) = find_file(&self.files, name) else {
             return Err(Failed);
         };
-        Ok(copy_from(bytes, from, piece))
+        Ok(copy_from(bytes, from, self.most, piece))
     }
 }
 

@@ -9,3 +9,4 @@ pub mod Lines
 pub mod ShownAgain
 pub mod Pieces
 pub mod Stand
+pub mod Places

@@ -8,3 +8,4 @@ pub mod Ahead
 pub mod Fitting
 pub mod Spelling
 pub mod Show
+pub mod Figure

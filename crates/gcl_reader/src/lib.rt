@@ -3,6 +3,7 @@
 
 mod argument;
 mod bytes;
+mod figure;
 mod file;
 mod lexer;
 mod limits;
@@ -14,8 +15,9 @@ mod span;
 mod table;
 mod word;
 
+pub use figure::read_figure;
 pub use file::{Arg, Command, File, What};
-pub use limits::{LONGEST_NAME, MOST_BYTE, MOST_BYTES, MOST_COMMANDS, UNIT};
+pub use limits::{LONGEST_NAME, MOST_BYTE, MOST_BYTES, MOST_COMMANDS, MOST_COORDINATE, UNIT};
 pub use name::Name;
 pub use reading::{read, spelled_is_read, tokens_stand};
 pub use refusal::{GclFault, Kind, Refusal};

@@ -12,3 +12,6 @@ pub const UNIT: u32 = 1_000_000;
 
 /// The greatest number of a byte.
 pub const MOST_BYTE: u8 = 255;
+
+/// The greatest size of a coordinate of a figure of whole numbers.
+pub const MOST_COORDINATE: u64 = 1_000_000;

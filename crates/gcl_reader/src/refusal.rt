@@ -4,7 +4,8 @@ ghost use Rattle.gcl_reader.specs.declared.refusal.GclFault.TheVariants.{OutOfMe
 use std::alloc::{AllocError, AllocFailed};
 use thiserror::Error;
 
-/// Why a file is refused. The reader has the first nine; the other kinds belong to the stages behind it.
+/// Why a file is refused. The reader has the first nine, and the last where it reads a figure; the other kinds belong to the
+/// stages behind it.
 #[derive(Clone, Copy, Debug, PartialEq, Eq)]
 pub enum Kind {
     /// A byte outside comments is neither a blank nor a visible ASCII character.
@@ -43,6 +44,8 @@ pub enum Kind {
     SamePoints,
     /// A point lies too far out.
     OutOfRange,
+    /// A token of a figure of whole numbers is neither the name nor the whole number of its place, or is missing.
+    BadFigure,
 }
 
 /// Why a file is refused, and the token at fault: its line, counted from 1, and its place and length in bytes.

@@ -21,7 +21,7 @@ use Rattle.proof_steps.specs.declared.piece.Outcome.TheVariants as outcome
 use Rattle.proof_steps.specs.declared.step.Step.{Step}
 use Rattle.proof_steps.specs.declared.step.Step.TheVariants as step
 use Rattle.proof_steps.specs.declared.step.Attempt.TheVariants as attempt
-use Rattle.proof_steps.proofs.Following.{same_path-is, same_path-self, same_list-is, steps-cons, Fits, AreTrees, by_first, end-path}
+use Rattle.proof_steps.proofs.Following.{same_path-self, same_list-is, steps-cons, Fits, AreTrees, by_first, end-path}
 use Rattle.verdicts.specs.Verdicts.{has_minus, plus_part, gain_of, is_leaf, gain_in, gain_at, generic_leaf, is_unproved, without_repeats, conditions}
 use Rattle.assurance.proofs.Some.{some-map, some-cases, some-front, some-back, witness, filtered-in}
 use Rattle.assurance.proofs.Paths.{lead, plus-append, plus_part-is, replicate-length, replicate-last, all_plus, farther, Below, below-more, Extends, below-some, child-paths}

@@ -1,12 +1,12 @@
 -- Values in bounds are the values, and what a found point shows.
-use Rattle.std.proofs.Common.{◌≡◌, ◌≢◌, ℕ, ◌+◌, ◌-◌, zero, suc, List, [], ◌∷◌, get_or, length, refl, sym, ◌∙◌, ap, subst, arith, Bool, true, false, ◌&&◌, not}
+use Rattle.std.proofs.Common.{◌≡◌, ◌≢◌, ℕ, ◌+◌, ◌-◌, zero, suc, List, [], ◌∷◌, get_or, length, refl, sym, ◌∙◌, ap, subst, arith, Bool, true, false, not}
 use Rattle.std.specs.Prelude.{ℤ, pos, negsuc, neg_ℤ, ◌+ℤ◌, ◌*ℤ◌, Option, Some, None, if◌then◌else◌}
 use Rattle.std.specs.List.{list_all}
 use Rattle.std.specs.Ordering.{int_eq}
 use Rattle.std.proofs.lemmas.Bool.{and_parts}
 use Rattle.std.proofs.lemmas.Bool.Decides.{Decides-int_eq}
 use Rattle.std.proofs.lemmas.Option.{same_Some}
-use Rattle.poly_model.specs.Domain.{Operations, IsCommutativeRing, integers, integer_in}
+use Rattle.poly_model.specs.Domain.{IsCommutativeRing, integers, integer_in}
 use Rattle.poly_model.specs.Integers as whole
 use Rattle.poly_model.specs.Ring as ring
 use Rattle.poly_model.specs.Polynomial.{Polynomial, power, monomial_at, value_at}
@@ -19,7 +19,6 @@ use Rattle.proof_steps.specs.declared.problem.Problem.{Problem}
 use Rattle.proof_steps.specs.Leaves.{is_listed}
 use Rattle.proof_steps.specs.Numbers.{item}
 use Rattle.proof_steps.specs.Trees.{is_tree_of}
-use Rattle.proof_steps.specs.declared.piece.LeafStatus.{LeafStatus}
 use Rattle.proof_steps.specs.declared.piece.LeafStatus.TheVariants as status
 use Rattle.verdicts.specs.Verdicts.{generic_leaf, conditions, under, verdict_by, verdict_of}
 use Rattle.verdicts.specs.Claims.{Claims}
@@ -27,9 +26,7 @@ use Rattle.verdicts.specs.declared.verdict.Verdict.{Verdict}
 use Rattle.verdicts.specs.declared.verdict.Verdict.TheVariants as verdict
 use Rattle.assurance.proofs.Claim.{verdict_holds}
 use Rattle.sample_point.specs.Value.{in_bounds, and_then, times_power, times_powers, plus_terms, value_in}
-use Rattle.sample_point.specs.Sampling.{Partial, no_values, with_all, has_value, has_zero, has_other, succeeds, point_of, first_point, first_other, is_system, point_at, point_found, shown_by, found_at, found_of}
-use Rattle.sample_point.specs.declared.found.Found.{Found}
-use Rattle.sample_point.specs.declared.found.Found.TheVariants as found
+use Rattle.sample_point.specs.Sampling.{Partial, no_values, with_all, has_value, has_zero, has_other, succeeds, point_of, first_point, first_other, is_system, point_at, point_found, shown_by, found_at}
 use Rattle.sample_point.specs.declared.tries.TheConstants.{MOST_TRIES}
 use Rattle.sample_point.specs.Holding.{ValuesAreRight, Shows, FoundsShow, Proves, ProvedIsNotRefuted}
 use Rattle.sample_point.proofs.Branch.{conditions_hold}

@@ -1,9 +1,9 @@
 -- A worked try, computed: two midpoints of a triangle.
 use Rattle.std.proofs.Common.{◌≡◌, List, [], ◌∷◌, refl}
-use Rattle.std.specs.Prelude.{ℤ, pos, negsuc, Some}
+use Rattle.std.specs.Prelude.{pos, negsuc, Some}
 use Rattle.poly_model.specs.Polynomial.{Polynomial}
 use Rattle.sample_point.specs.Value.{times_power, times_powers, plus_terms}
-use Rattle.sample_point.specs.Sampling.{Partial, no_values, with_all}
+use Rattle.sample_point.specs.Sampling.{no_values, with_all}
 
 -- 2*x1 - u2, 2*x2 - u3, 2*x3 - u2 - u1, 2*x4 - u3
 abbrev equations : List Polynomial

@@ -2,7 +2,7 @@
 use Rattle.std.specs.Prelude.{◌≡◌, ◌≢◌, ℕ, ℤ, pos, List, Some, IsTrue}
 use Rattle.poly_model.specs.Domain.{integers}
 use Rattle.poly_model.specs.Polynomial.{Polynomial, value_at}
-use Rattle.poly_model.specs.Zeros.{AllZero, NoneZero, IsZero}
+use Rattle.poly_model.specs.Zeros.{AllZero, IsZero}
 use Rattle.proof_steps.specs.Numbers.{item}
 use Rattle.proof_steps.specs.Trees.{is_tree_of}
 use Rattle.proof_steps.specs.declared.piece.Piece.{Piece}

@@ -1,5 +1,4 @@
 use Rattle.std.proofs.Common.{length, ◌≡◌, IsTrue}
-use Rattle.std.specs.List.{list_all}
 use Rattle.poly_model.specs.Standard.{is_bounded, polynomial_of, are_bounded}
 use Rattle.sample_point.specs.Value.{plus_terms}
 use Rattle.sample_point.proofs.evaluation.plus_terms.Given as goal

@@ -14,4 +14,4 @@ returns-clause-bytes c = λ file holds.
     = ap (λ l. file_of (map (λ file. (string_bytes file.0, file.1.items)) l) c.args.name.now) c.deref-2.ensures.value
     ∙ ap (λ s. file_of s.files c.args.name.now) c.self.view_is in
     let e : c.in-Some.bytes.now.items ≡ file = same_Some _ _ (sym c.in-Some.ensures ∙ m ∙ same_Some _ _ holds) in
-    reads_file c.args.piece.now _ _ file c.args.from _ (c.deref-3.ensures.value ∙ e) c.copy_from.ensures.count c.copy_from.ensures.bytes (omega arith)
+    reads_file c.args.piece.now _ _ file c.args.from _ c.self.inside.most c.self.invariant (c.deref-3.ensures.value ∙ e) c.copy_from.ensures.count c.copy_from.ensures.bytes (omega arith)
