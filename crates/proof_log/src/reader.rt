@@ -198,7 +198,8 @@ impl LogReader {
 
     /// The log has ended: it is whole, or the line that is missing or has no LF is at fault.
     pub fn finish(self) -> Result<(), LogFault>
-        ensures { (bytes : List ℕ) (front : List LogLine) → IsFed front self bytes
+        ensures stays { (f : LogFault) → self.fault ≡ Some f → result ≡ Err f }
+        ensures whole { (bytes : List ℕ) (front : List LogLine) → IsFed front self bytes
             → Finished result front bytes }
     {
         if let Some(fault) = self.fault {

@@ -52,7 +52,7 @@ returns-in-Ok-finish c =
     let l = c.loop-rest in
     let p = l.invariant.passed in
     let none : length l.rest.now ≡ 0 = eqb-true (length l.rest.now) 0 (sym c.is_empty.ensures ∙ c.loop-rest-test.false) in
-    let ends = c.in-Ok-finish.ensures p.done p.front (as_fed p.front l.reader p.done p.fed) in
+    let ends = c.in-Ok-finish.ensures.whole p.done p.front (as_fed p.front l.reader p.done p.fed) in
     subst (Judged (Ok c.checked.result)) (all_passed c.args.bytes.now l.rest.now l.reader l.progress l.seen p none)
     (ends_well p.front l.progress p.done l.seen c.checked.result ends p.behind c.checked.ensures.problems c.checked.ensures.verdicts)
 
@@ -62,6 +62,6 @@ returns-in-Err-Malformed c =
     let p = l.invariant.passed in
     let n = c.in-Err-Malformed.n in
     let none : length l.rest.now ≡ 0 = eqb-true (length l.rest.now) 0 (sym c.is_empty.ensures ∙ c.loop-rest-test.false) in
-    let ends = c.in-Err-Malformed.ensures p.done p.front (as_fed p.front l.reader p.done p.fed) in
+    let ends = c.in-Err-Malformed.ensures.whole p.done p.front (as_fed p.front l.reader p.done p.fed) in
     subst (IsMalformed n) (all_passed c.args.bytes.now l.rest.now l.reader l.progress l.seen p none)
     (ends_ill p.front l.progress p.done l.seen n (subst (λ f. Finished (Err f) p.front p.done) c.in-Err-Malformed.field-0-is ends) p.behind)
