@@ -3,8 +3,8 @@ use Rattle.std.proofs.Common.{◌≤◌, ◌==◌, ℕ, List, [], ◌∷◌, ◌
 use Rattle.gcl_names.specs.declared.program.Act.{Act}
 use Rattle.algebraize.specs.declared.layout.Coordinate.{Coordinate}
 use Rattle.algebraize.specs.declared.layout.Coordinate.TheVariants as coordinate
-use Rattle.algebraize.specs.declared.new_points.NewPoints.{NewPoints}
-use Rattle.algebraize.specs.declared.new_points.NewPoints.TheVariants as new
+use Rattle.algebraize.specs.declared.points.NewPoints.{NewPoints}
+use Rattle.algebraize.specs.declared.points.NewPoints.TheVariants as new
 use Rattle.algebraize.specs.Layout.{IsBelow, AreBelow, IsOwn, Layout, layout_of, layout_from, new_points, with_points, free_point, semi_free_point, dependent_point, empty, with_u, with_place, next}
 
 IsBelow-more : (m n : ℕ) (c : Coordinate) → m ≤ n → IsBelow m c → IsBelow n c

@@ -20,8 +20,8 @@ use Rattle.gcl_names.specs.declared.program.Deed.{Deed}
 use Rattle.gcl_names.specs.declared.program.Deed.TheVariants as deed
 use Rattle.gcl_names.specs.Sound.{Counts, after, after_all, nothing}
 use Rattle.algebraize.specs.declared.layout.Coordinate.TheVariants as coordinate
-use Rattle.algebraize.specs.declared.new_points.NewPoints.{NewPoints}
-use Rattle.algebraize.specs.declared.new_points.NewPoints.TheVariants as new
+use Rattle.algebraize.specs.declared.points.NewPoints.{NewPoints}
+use Rattle.algebraize.specs.declared.points.NewPoints.TheVariants as new
 use Rattle.algebraize.specs.Layout.{Layout, layout_of, layout_from, new_points, with_points, free_point, semi_free_point, dependent_point, empty, with_u, with_x, with_place, next}
 use Rattle.algebraize.specs.Equations.{Equations, equations_of}
 use Rattle.algebraize.specs.Problem.{is_prove, acts_before, laid_out, too_many_variables, problem_at, problem_of_deed, problem_between, problem_of, problems_from, proves_in}

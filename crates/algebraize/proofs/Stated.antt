@@ -20,8 +20,8 @@ use Rattle.gcl_names.specs.declared.program.Deed.{Deed}
 use Rattle.gcl_names.specs.declared.program.Deed.TheVariants as deed
 use Rattle.algebraize.specs.declared.layout.Coordinate.{Coordinate}
 use Rattle.algebraize.specs.declared.layout.Coordinate.TheVariants as coordinate
-use Rattle.algebraize.specs.declared.new_points.NewPoints.{NewPoints}
-use Rattle.algebraize.specs.declared.new_points.NewPoints.TheVariants as new
+use Rattle.algebraize.specs.declared.points.NewPoints.{NewPoints}
+use Rattle.algebraize.specs.declared.points.NewPoints.TheVariants as new
 use Rattle.algebraize.specs.Vectors.{Vector, coordinates, plus, twice}
 use Rattle.algebraize.specs.Curves.{Curves, no_curves}
 use Rattle.algebraize.specs.Ratio.{numerator, denominator}

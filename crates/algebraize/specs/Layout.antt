@@ -8,8 +8,8 @@ use Rattle.gcl_names.specs.declared.program.Deed.{Deed}
 use Rattle.gcl_names.specs.declared.program.Deed.TheVariants as deed
 use Rattle.algebraize.specs.declared.layout.Coordinate.{Coordinate}
 use Rattle.algebraize.specs.declared.layout.Coordinate.TheVariants as coordinate
-use Rattle.algebraize.specs.declared.new_points.NewPoints.{NewPoints}
-use Rattle.algebraize.specs.declared.new_points.NewPoints.TheVariants as new
+use Rattle.algebraize.specs.declared.points.NewPoints.{NewPoints}
+use Rattle.algebraize.specs.declared.points.NewPoints.TheVariants as new
 use Rattle.algebraize.specs.Vectors.{Vector}
 use Rattle.algebraize.specs.Figure.{Figure}
 

@@ -7,7 +7,7 @@ ghost use Rattle.gcl_reader.specs.declared.refusal.GclFault.TheVariants.{Refused
 ghost use Rattle.algebraize.specs.Layout.{dependent_point, empty, free_point, next, semi_free_point, with_place, with_points, with_u, with_x};
 ghost use Rattle.algebraize.specs.Problem.{laid_out, too_many_variables};
 
-use crate::new_points::{NewPoints, new_points};
+use crate::points::{NewPoints, new_points};
 use gcl_names::Act;
 use gcl_reader::{GclFault, Kind, Refusal};
 use poly_model::{MOST_VARIABLES, VarName, Vars};

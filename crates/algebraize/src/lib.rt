@@ -5,7 +5,7 @@ mod figure;
 mod laws;
 mod layout;
 mod lines;
-mod new_points;
+mod points;
 mod primitive;
 mod problem;
 mod ratio;
@@ -18,7 +18,7 @@ pub use laws::{
     constructions_in_other_words, equations_mean_their_figure, problems_mean_their_figures,
     ratios_are_in_lowest_terms, statements_in_other_words,
 };
-pub use new_points::{NewPoints, new_points};
+pub use points::{NewPoints, new_points};
 pub use problem::{acts_before, problems, system_of};
 pub use proof_steps::Problem;
 pub use ratio::{MILLIONTHS, MOST_MILLIONTHS};

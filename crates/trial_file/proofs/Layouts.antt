@@ -5,8 +5,8 @@ use Rattle.poly_model.specs.declared.limits.TheConstants.{MOST_VARIABLES}
 use Rattle.gcl_names.specs.declared.program.Act.{Act}
 use Rattle.gcl_names.specs.declared.program.Deed.{Deed}
 use Rattle.gcl_names.specs.declared.program.Deed.TheVariants as deed
-use Rattle.algebraize.specs.declared.new_points.NewPoints.{NewPoints}
-use Rattle.algebraize.specs.declared.new_points.NewPoints.TheVariants as new
+use Rattle.algebraize.specs.declared.points.NewPoints.{NewPoints}
+use Rattle.algebraize.specs.declared.points.NewPoints.TheVariants as new
 use Rattle.algebraize.specs.Layout.{Layout, new_points, with_points, layout_from, layout_of, empty}
 use Rattle.algebraize.specs.Equations.{Equations, equations_of}
 use Rattle.algebraize.specs.Problem.{problem_at, problem_of, problem_of_deed, problem_between, problems_from, acts_before, nothing_asked}
