@@ -24,20 +24,13 @@ head_text w h = row (
     codes "<svg xmlns=\"http://www.w3.org/2000/svg\" width=\"" ∷ length_text w.ticks ∷ codes "mm\" height=\"" ∷ length_text h.ticks
     ∷ codes "mm\" viewBox=\"0 0 " ∷ length_text w.ticks ∷ codes " " ∷ length_text h.ticks ∷ codes "\">\n" ∷ [])
 
--- A straight line, in a drawing of height h.
-unfoldable pub segment_text : Measure → Ink → Spot → Spot → List ℕ
-segment_text h ink a b = row (
+-- A straight line, in a drawing of height h, and what it ends with.
+unfoldable pub straight_text : Measure → Ink → Spot → Spot → List ℕ → List ℕ
+straight_text h ink a b end = row (
     codes "<line x1=\"" ∷ length_text a.x ∷ codes "\" y1=\"" ∷ length_text (h.ticks -ℤ a.y)
     ∷ codes "\" x2=\"" ∷ length_text b.x ∷ codes "\" y2=\"" ∷ length_text (h.ticks -ℤ b.y)
     ∷ codes "\" stroke=\"rgb(" ∷ decimal ink.r ∷ codes "," ∷ decimal ink.g ∷ codes "," ∷ decimal ink.b
-    ∷ codes ")\" stroke-width=\"0.2\"/>\n" ∷ [])
-
-unfoldable pub dashed_text : Measure → Ink → Spot → Spot → List ℕ
-dashed_text h ink a b = row (
-    codes "<line x1=\"" ∷ length_text a.x ∷ codes "\" y1=\"" ∷ length_text (h.ticks -ℤ a.y)
-    ∷ codes "\" x2=\"" ∷ length_text b.x ∷ codes "\" y2=\"" ∷ length_text (h.ticks -ℤ b.y)
-    ∷ codes "\" stroke=\"rgb(" ∷ decimal ink.r ∷ codes "," ∷ decimal ink.g ∷ codes "," ∷ decimal ink.b
-    ∷ codes ")\" stroke-width=\"0.2\" stroke-dasharray=\"1 1\"/>\n" ∷ [])
+    ∷ codes ")\" stroke-width=\"0.2\"" ∷ end ∷ [])
 
 unfoldable pub circle_text : Measure → Ink → Spot → Measure → List ℕ
 circle_text h ink a r = row (
@@ -45,16 +38,11 @@ circle_text h ink a r = row (
     ∷ codes "\" fill=\"none\" stroke=\"rgb(" ∷ decimal ink.r ∷ codes "," ∷ decimal ink.g ∷ codes "," ∷ decimal ink.b
     ∷ codes ")\" stroke-width=\"0.2\"/>\n" ∷ [])
 
-unfoldable pub dot_text : Measure → Ink → Spot → List ℕ
-dot_text h ink a = row (
-    codes "<circle cx=\"" ∷ length_text a.x ∷ codes "\" cy=\"" ∷ length_text (h.ticks -ℤ a.y)
-    ∷ codes "\" r=\"0.4\" fill=\"rgb(" ∷ decimal ink.r ∷ codes "," ∷ decimal ink.g ∷ codes "," ∷ decimal ink.b ∷ codes ")\"/>\n" ∷ [])
-
-unfoldable pub ring_text : Measure → Ink → Spot → List ℕ
-ring_text h ink a = row (
-    codes "<circle cx=\"" ∷ length_text a.x ∷ codes "\" cy=\"" ∷ length_text (h.ticks -ℤ a.y)
-    ∷ codes "\" r=\"0.6\" fill=\"white\" stroke=\"rgb(" ∷ decimal ink.r ∷ codes "," ∷ decimal ink.g ∷ codes "," ∷ decimal ink.b
-    ∷ codes ")\" stroke-width=\"0.2\"/>\n" ∷ [])
+-- The mark of a point: a small circle of a look, and what it ends with.
+unfoldable pub mark_text : Measure → Ink → Spot → List ℕ → List ℕ → List ℕ
+mark_text h ink a look end = row (
+    codes "<circle cx=\"" ∷ length_text a.x ∷ codes "\" cy=\"" ∷ length_text (h.ticks -ℤ a.y) ∷ codes "\" r=\"" ∷ look
+    ∷ codes "=\"rgb(" ∷ decimal ink.r ∷ codes "," ∷ decimal ink.g ∷ codes "," ∷ decimal ink.b ∷ end ∷ [])
 
 -- A name at a place, by the end that stands there.
 unfoldable pub name_text : Measure → Ink → Spot → List ℕ → List ℕ → List ℕ
@@ -69,11 +57,11 @@ label_text h names ink a s p = name_text h ink (moved a (offset_of s)) (anchor_o
 
 -- The line of a shape in a colour; the names are those of the points.
 abbrev pub shape_text : Measure → List (List ℕ) → Ink → Shape → List ℕ
-shape_text h names ink (shape.Segment a b) = segment_text h ink a b
-shape_text h names ink (shape.Dashed a b) = dashed_text h ink a b
+shape_text h names ink (shape.Segment a b) = straight_text h ink a b (codes "/>\n")
+shape_text h names ink (shape.Dashed a b) = straight_text h ink a b (codes " stroke-dasharray=\"1 1\"/>\n")
 shape_text h names ink (shape.Whole a r) = circle_text h ink a (record { ticks = r })
-shape_text h names ink (shape.Dot a) = dot_text h ink a
-shape_text h names ink (shape.Ring a) = ring_text h ink a
+shape_text h names ink (shape.Dot a) = mark_text h ink a (codes "0.4\" fill") (codes ")\"/>\n")
+shape_text h names ink (shape.Ring a) = mark_text h ink a (codes "0.6\" fill=\"white\" stroke") (codes ")\" stroke-width=\"0.2\"/>\n")
 shape_text h names ink (shape.Label a s p) = label_text h names ink a s p
 
 -- The lines of shapes, each with its colour, in their order.

@@ -4,7 +4,7 @@ ghost use Rattle.desk_io.specs.Causes.{HasCause};
 ghost use Rattle.desk_io.specs.Bytes.{Writes};
 ghost use Rattle.circle_cut.specs.Sizes.{IsNear};
 ghost use Rattle.picture.specs.Shapes.{IsExtent};
-ghost use Rattle.svg_out.specs.Svg.{head_text, segment_text, dashed_text, circle_text, dot_text, ring_text, name_text};
+ghost use Rattle.svg_out.specs.Svg.{head_text, straight_text, circle_text, mark_text, name_text};
 
 use desk_io::{Failed, Pen, Sink};
 use fixed_point::{MOST_TICKS, Spot};
@@ -36,22 +36,23 @@ pub fn write_head<S: Sink>(
     write_pieces(&pieces, pen, sink)
 }
 
-/// A straight line.
-#[tactic(auto, unfolding(crate::specs::Svg::segment_text))]
-pub fn write_segment<S: Sink>(
+/// A straight line, by its ends; `end` is what the line ends with, and says whether it is dashed.
+#[tactic(auto, unfolding(crate::specs::Svg::straight_text))]
+pub fn write_straight<'a, S: Sink>(
     h: Measure,
     ink: Ink,
-    a: Spot,
-    b: Spot,
+    ends: (Spot, Spot),
+    end: &'a [u8],
     pen: &mut Pen,
     sink: &mut S,
 ) -> Result<(), Failed>
     requires height { IsExtent h.ticks }
-    requires spots { IsNear a × IsNear b }
+    requires spots { IsNear ends.0 × IsNear ends.1 }
     ensures bytes { Writes (S.written sink.old) (S.written sink.new) pen.old pen.new result
-        (segment_text h ink a b) }
+        (straight_text h ink ends.0 ends.1 end.now) }
     ensures cause { HasCause (S.faults sink.old) (S.faults sink.new) result }
 {
+    let (a, b) = ends;
     let pieces = [
         Piece::Text(b"<line x1=\""),
         Piece::Across(a),
@@ -67,43 +68,8 @@ pub fn write_segment<S: Sink>(
         Piece::Green(ink),
         Piece::Text(b","),
         Piece::Blue(ink),
-        Piece::Text(b")\" stroke-width=\"0.2\"/>\n"),
-    ];
-    write_pieces(&pieces, pen, sink)
-}
-
-/// A dashed line.
-#[tactic(auto, unfolding(crate::specs::Svg::dashed_text))]
-pub fn write_dashed<S: Sink>(
-    h: Measure,
-    ink: Ink,
-    a: Spot,
-    b: Spot,
-    pen: &mut Pen,
-    sink: &mut S,
-) -> Result<(), Failed>
-    requires height { IsExtent h.ticks }
-    requires spots { IsNear a × IsNear b }
-    ensures bytes { Writes (S.written sink.old) (S.written sink.new) pen.old pen.new result
-        (dashed_text h ink a b) }
-    ensures cause { HasCause (S.faults sink.old) (S.faults sink.new) result }
-{
-    let pieces = [
-        Piece::Text(b"<line x1=\""),
-        Piece::Across(a),
-        Piece::Text(b"\" y1=\""),
-        Piece::Down(h, a),
-        Piece::Text(b"\" x2=\""),
-        Piece::Across(b),
-        Piece::Text(b"\" y2=\""),
-        Piece::Down(h, b),
-        Piece::Text(b"\" stroke=\"rgb("),
-        Piece::Red(ink),
-        Piece::Text(b","),
-        Piece::Green(ink),
-        Piece::Text(b","),
-        Piece::Blue(ink),
-        Piece::Text(b")\" stroke-width=\"0.2\" stroke-dasharray=\"1 1\"/>\n"),
+        Piece::Text(b")\" stroke-width=\"0.2\""),
+        Piece::Text(end),
     ];
     write_pieces(&pieces, pen, sink)
 }
@@ -142,19 +108,22 @@ pub fn write_circle<S: Sink>(
     write_pieces(&pieces, pen, sink)
 }
 
-/// A dot.
-#[tactic(auto, unfolding(crate::specs::Svg::dot_text))]
-pub fn write_dot<S: Sink>(
+/// The mark of a point, a small circle: `look` is its radius and what is filled with a colour or drawn in it, and `end` what stands
+/// behind the colour.
+#[tactic(auto, unfolding(crate::specs::Svg::mark_text))]
+pub fn write_mark<'a, S: Sink>(
     h: Measure,
     ink: Ink,
     a: Spot,
+    look: &'a [u8],
+    end: &'a [u8],
     pen: &mut Pen,
     sink: &mut S,
 ) -> Result<(), Failed>
     requires height { IsExtent h.ticks }
     requires spot { IsNear a }
     ensures bytes { Writes (S.written sink.old) (S.written sink.new) pen.old pen.new result
-        (dot_text h ink a) }
+        (mark_text h ink a look.now end.now) }
     ensures cause { HasCause (S.faults sink.old) (S.faults sink.new) result }
 {
     let pieces = [
@@ -162,44 +131,15 @@ pub fn write_dot<S: Sink>(
         Piece::Across(a),
         Piece::Text(b"\" cy=\""),
         Piece::Down(h, a),
-        Piece::Text(b"\" r=\"0.4\" fill=\"rgb("),
+        Piece::Text(b"\" r=\""),
+        Piece::Text(look),
+        Piece::Text(b"=\"rgb("),
         Piece::Red(ink),
         Piece::Text(b","),
         Piece::Green(ink),
         Piece::Text(b","),
         Piece::Blue(ink),
-        Piece::Text(b")\"/>\n"),
-    ];
-    write_pieces(&pieces, pen, sink)
-}
-
-/// A ring.
-#[tactic(auto, unfolding(crate::specs::Svg::ring_text))]
-pub fn write_ring<S: Sink>(
-    h: Measure,
-    ink: Ink,
-    a: Spot,
-    pen: &mut Pen,
-    sink: &mut S,
-) -> Result<(), Failed>
-    requires height { IsExtent h.ticks }
-    requires spot { IsNear a }
-    ensures bytes { Writes (S.written sink.old) (S.written sink.new) pen.old pen.new result
-        (ring_text h ink a) }
-    ensures cause { HasCause (S.faults sink.old) (S.faults sink.new) result }
-{
-    let pieces = [
-        Piece::Text(b"<circle cx=\""),
-        Piece::Across(a),
-        Piece::Text(b"\" cy=\""),
-        Piece::Down(h, a),
-        Piece::Text(b"\" r=\"0.6\" fill=\"white\" stroke=\"rgb("),
-        Piece::Red(ink),
-        Piece::Text(b","),
-        Piece::Green(ink),
-        Piece::Text(b","),
-        Piece::Blue(ink),
-        Piece::Text(b")\" stroke-width=\"0.2\"/>\n"),
+        Piece::Text(end),
     ];
     write_pieces(&pieces, pen, sink)
 }

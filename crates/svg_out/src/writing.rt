@@ -5,9 +5,7 @@ ghost use Rattle.desk_io.specs.Bytes.{Writes};
 ghost use Rattle.picture.specs.Shapes.{IsExtent, IsNearby, IsDrawable, IsNamed, IsWritten};
 ghost use Rattle.svg_out.specs.Svg.{label_text, shape_text, shapes_text, svg_text};
 
-use crate::line::{
-    write_circle, write_dashed, write_dot, write_head, write_name, write_ring, write_segment,
-};
+use crate::line::{write_circle, write_head, write_mark, write_name, write_straight};
 use crate::side::{anchor_of, name_place};
 use desk_io::{Failed, Pen, Sink};
 use fixed_point::Spot;
@@ -59,11 +57,21 @@ fn write_shape<S: Sink>(
     ensures cause { HasCause (S.faults sink.old) (S.faults sink.new) result }
 {
     match shape {
-        Shape::Segment(a, b) => write_segment(h, ink, a, b, pen, sink),
-        Shape::Dashed(a, b) => write_dashed(h, ink, a, b, pen, sink),
+        Shape::Segment(a, b) => write_straight(h, ink, (a, b), b"/>\n", pen, sink),
+        Shape::Dashed(a, b) => {
+            write_straight(h, ink, (a, b), b" stroke-dasharray=\"1 1\"/>\n", pen, sink)
+        }
         Shape::Whole(a, radius) => write_circle(h, ink, a, Measure { ticks: radius }, pen, sink),
-        Shape::Dot(a) => write_dot(h, ink, a, pen, sink),
-        Shape::Ring(a) => write_ring(h, ink, a, pen, sink),
+        Shape::Dot(a) => write_mark(h, ink, a, b"0.4\" fill", b")\"/>\n", pen, sink),
+        Shape::Ring(a) => write_mark(
+            h,
+            ink,
+            a,
+            b"0.6\" fill=\"white\" stroke",
+            b")\" stroke-width=\"0.2\"/>\n",
+            pen,
+            sink,
+        ),
         Shape::Label(a, side, point) => write_label(h, names, ink, (a, side, point), pen, sink),
     }
 }
