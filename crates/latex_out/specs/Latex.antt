@@ -49,37 +49,29 @@ circle_text ink a d = row (
     codes "\\put(" ∷ length_text a.x ∷ codes "," ∷ length_text a.y ∷ codes "){\\color[RGB]{" ∷ decimal ink.r ∷ codes "," ∷ decimal ink.g ∷ codes "," ∷ decimal ink.b
     ∷ codes "}\\circle{" ∷ length_text d.ticks ∷ codes "}}\n" ∷ [])
 
-unfoldable pub dot_text : Ink → Spot → List ℕ
-dot_text ink a = row (
+-- The mark of a point: a circle or a filled one, of a size.
+unfoldable pub mark_text : Ink → Spot → List ℕ → List ℕ
+mark_text ink a mark = row (
     codes "\\put(" ∷ length_text a.x ∷ codes "," ∷ length_text a.y ∷ codes "){\\color[RGB]{" ∷ decimal ink.r ∷ codes "," ∷ decimal ink.g ∷ codes "," ∷ decimal ink.b
-    ∷ codes "}\\circle*{0.8}}\n" ∷ [])
-
-unfoldable pub ring_text : Ink → Spot → List ℕ
-ring_text ink a = row (
-    codes "\\put(" ∷ length_text a.x ∷ codes "," ∷ length_text a.y ∷ codes "){\\color[RGB]{" ∷ decimal ink.r ∷ codes "," ∷ decimal ink.g ∷ codes "," ∷ decimal ink.b
-    ∷ codes "}\\circle{1.2}}\n" ∷ [])
+    ∷ codes "}\\circle" ∷ mark ∷ codes "}\n" ∷ [])
 
 -- A byte of what stands lower, behind the low line that parts it from the name: a further low line is shown as one.
 abbrev pub lower_text : ℕ → List ℕ
 lower_text b = if b == low_line then codes "\\_" else b ∷ []
 
--- A name, and a name of which a part stands lower, at a place, by the corner that stands there.
-unfoldable pub plain_text : Ink → Spot → List ℕ → List ℕ → List ℕ
-plain_text ink a corner name = row (
+-- A name at a place, by the corner that stands there, and what stands behind the name.
+unfoldable pub boxed_text : Ink → Spot → List ℕ → List ℕ → List ℕ → List ℕ
+boxed_text ink a corner name behind = row (
     codes "\\put(" ∷ length_text a.x ∷ codes "," ∷ length_text a.y ∷ codes "){\\color[RGB]{" ∷ decimal ink.r ∷ codes "," ∷ decimal ink.g ∷ codes "," ∷ decimal ink.b
-    ∷ codes "}\\makebox(0,0)" ∷ corner ∷ codes "{$" ∷ name ∷ codes "$}}\n" ∷ [])
+    ∷ codes "}\\makebox(0,0)" ∷ corner ∷ codes "{$" ∷ name ∷ behind ∷ [])
 
-unfoldable pub opened_text : Ink → Spot → List ℕ → List ℕ → List ℕ
-opened_text ink a corner name = row (
-    codes "\\put(" ∷ length_text a.x ∷ codes "," ∷ length_text a.y ∷ codes "){\\color[RGB]{" ∷ decimal ink.r ∷ codes "," ∷ decimal ink.g ∷ codes "," ∷ decimal ink.b
-    ∷ codes "}\\makebox(0,0)" ∷ corner ∷ codes "{$" ∷ name ∷ codes "_{" ∷ [])
-
+-- A name of which a part stands lower.
 abbrev pub lowered_text : Ink → Spot → List ℕ → List ℕ → List ℕ → List ℕ
-lowered_text ink a corner before behind = opened_text ink a corner before ++ flat_map lower_text behind ++ codes "}$}}\n"
+lowered_text ink a corner before behind = boxed_text ink a corner before (codes "_{") ++ flat_map lower_text behind ++ codes "}$}}\n"
 
 -- The part of a name behind its first low line stands lower.
 unfoldable pub name_with : Ink → Spot → List ℕ → List ℕ → Option ℕ → List ℕ
-name_with ink a corner name None = plain_text ink a corner name
+name_with ink a corner name None = boxed_text ink a corner name (codes "$}}\n")
 name_with ink a corner name (Some i) = lowered_text ink a corner (take i name) (drop (i + 1) name)
 
 unfoldable pub name_text : Ink → Spot → List ℕ → List ℕ → List ℕ
@@ -94,8 +86,8 @@ abbrev pub shape_text : List (List ℕ) → Ink → Shape → List ℕ
 shape_text names ink (shape.Segment a b) = line_text ink a b
 shape_text names ink (shape.Dashed a b) = dashed_text ink a b
 shape_text names ink (shape.Whole a r) = circle_text ink a (record { ticks = pos 2 *ℤ r })
-shape_text names ink (shape.Dot a) = dot_text ink a
-shape_text names ink (shape.Ring a) = ring_text ink a
+shape_text names ink (shape.Dot a) = mark_text ink a (codes "*{0.8}")
+shape_text names ink (shape.Ring a) = mark_text ink a (codes "{1.2}")
 shape_text names ink (shape.Label a s p) = label_text names ink a s p
 
 -- The lines of shapes, each with its colour, in their order.

@@ -2,7 +2,7 @@
 ghost use Rattle.std.specs.Prelude.{◌≡◌, List, ℕ};
 ghost use Rattle.desk_io.specs.Causes.{HasCause};
 ghost use Rattle.desk_io.specs.Bytes.{Writes};
-ghost use Rattle.latex_out.specs.Latex.{head_text, line_text, circle_text, dot_text, ring_text, plain_text, opened_text};
+ghost use Rattle.latex_out.specs.Latex.{head_text, line_text, circle_text, mark_text, boxed_text};
 
 use desk_io::{Failed, Pen, Sink};
 use fixed_point::Spot;
@@ -94,66 +94,52 @@ pub fn write_circle<S: Sink>(
     write_pieces(&pieces, pen, sink)
 }
 
-/// A dot.
-#[tactic(auto, unfolding(crate::specs::Latex::dot_text))]
-pub fn write_dot<S: Sink>(ink: Ink, a: Spot, pen: &mut Pen, sink: &mut S) -> Result<(), Failed>
-    ensures bytes { Writes (S.written sink.old) (S.written sink.new) pen.old pen.new result
-        (dot_text ink a) }
-    ensures cause { HasCause (S.faults sink.old) (S.faults sink.new) result }
-{
-    let pieces = [
-        Piece::Text(b"\\put("),
-        Piece::Across(a),
-        Piece::Text(b","),
-        Piece::Up(a),
-        Piece::Text(b"){\\color[RGB]{"),
-        Piece::Red(ink),
-        Piece::Text(b","),
-        Piece::Green(ink),
-        Piece::Text(b","),
-        Piece::Blue(ink),
-        Piece::Text(b"}\\circle*{0.8}}\n"),
-    ];
-    write_pieces(&pieces, pen, sink)
-}
-
-/// A ring.
-#[tactic(auto, unfolding(crate::specs::Latex::ring_text))]
-pub fn write_ring<S: Sink>(ink: Ink, a: Spot, pen: &mut Pen, sink: &mut S) -> Result<(), Failed>
-    ensures bytes { Writes (S.written sink.old) (S.written sink.new) pen.old pen.new result
-        (ring_text ink a) }
-    ensures cause { HasCause (S.faults sink.old) (S.faults sink.new) result }
-{
-    let pieces = [
-        Piece::Text(b"\\put("),
-        Piece::Across(a),
-        Piece::Text(b","),
-        Piece::Up(a),
-        Piece::Text(b"){\\color[RGB]{"),
-        Piece::Red(ink),
-        Piece::Text(b","),
-        Piece::Green(ink),
-        Piece::Text(b","),
-        Piece::Blue(ink),
-        Piece::Text(b"}\\circle{1.2}}\n"),
-    ];
-    write_pieces(&pieces, pen, sink)
-}
-
-/// A name at a place, by the corner that stands there.
-#[tactic(auto, unfolding(crate::specs::Latex::plain_text))]
-pub fn write_plain<'a, S: Sink>(
+/// The mark of a point, a circle or a filled one of a size.
+#[tactic(auto, unfolding(crate::specs::Latex::mark_text))]
+pub fn write_mark<'a, S: Sink>(
     ink: Ink,
     a: Spot,
-    corner: &'a [u8],
-    name: &'a [u8],
+    mark: &'a [u8],
     pen: &mut Pen,
     sink: &mut S,
 ) -> Result<(), Failed>
     ensures bytes { Writes (S.written sink.old) (S.written sink.new) pen.old pen.new result
-        (plain_text ink a corner.now name.now) }
+        (mark_text ink a mark.now) }
     ensures cause { HasCause (S.faults sink.old) (S.faults sink.new) result }
 {
+    let pieces = [
+        Piece::Text(b"\\put("),
+        Piece::Across(a),
+        Piece::Text(b","),
+        Piece::Up(a),
+        Piece::Text(b"){\\color[RGB]{"),
+        Piece::Red(ink),
+        Piece::Text(b","),
+        Piece::Green(ink),
+        Piece::Text(b","),
+        Piece::Blue(ink),
+        Piece::Text(b"}\\circle"),
+        Piece::Text(mark),
+        Piece::Text(b"}\n"),
+    ];
+    write_pieces(&pieces, pen, sink)
+}
+
+/// A name at a place, by the corner that stands there, and what stands behind the name.
+#[tactic(auto, unfolding(crate::specs::Latex::boxed_text))]
+pub fn write_boxed<'a, S: Sink>(
+    ink: Ink,
+    a: Spot,
+    corner: &'a [u8],
+    name: (&'a [u8], &'a [u8]),
+    pen: &mut Pen,
+    sink: &mut S,
+) -> Result<(), Failed>
+    ensures bytes { Writes (S.written sink.old) (S.written sink.new) pen.old pen.new result
+        (boxed_text ink a corner.now name.entry.0.now name.entry.1.now) }
+    ensures cause { HasCause (S.faults sink.old) (S.faults sink.new) result }
+{
+    let (letters, behind) = name;
     let pieces = [
         Piece::Text(b"\\put("),
         Piece::Across(a),
@@ -168,42 +154,8 @@ pub fn write_plain<'a, S: Sink>(
         Piece::Text(b"}\\makebox(0,0)"),
         Piece::Text(corner),
         Piece::Text(b"{$"),
-        Piece::Text(name),
-        Piece::Text(b"$}}\n"),
-    ];
-    write_pieces(&pieces, pen, sink)
-}
-
-/// The part of a name in front of what stands lower.
-#[tactic(auto, unfolding(crate::specs::Latex::opened_text))]
-pub fn write_opened<'a, S: Sink>(
-    ink: Ink,
-    a: Spot,
-    corner: &'a [u8],
-    name: &'a [u8],
-    pen: &mut Pen,
-    sink: &mut S,
-) -> Result<(), Failed>
-    ensures bytes { Writes (S.written sink.old) (S.written sink.new) pen.old pen.new result
-        (opened_text ink a corner.now name.now) }
-    ensures cause { HasCause (S.faults sink.old) (S.faults sink.new) result }
-{
-    let pieces = [
-        Piece::Text(b"\\put("),
-        Piece::Across(a),
-        Piece::Text(b","),
-        Piece::Up(a),
-        Piece::Text(b"){\\color[RGB]{"),
-        Piece::Red(ink),
-        Piece::Text(b","),
-        Piece::Green(ink),
-        Piece::Text(b","),
-        Piece::Blue(ink),
-        Piece::Text(b"}\\makebox(0,0)"),
-        Piece::Text(corner),
-        Piece::Text(b"{$"),
-        Piece::Text(name),
-        Piece::Text(b"_{"),
+        Piece::Text(letters),
+        Piece::Text(behind),
     ];
     write_pieces(&pieces, pen, sink)
 }

@@ -6,7 +6,7 @@ ghost use Rattle.desk_io.specs.Bytes.{Writes};
 ghost use Rattle.latex_out.specs.Latex.{lower_text, lowered_text, name_text};
 ghost use Rattle.desk_io.specs.Characters.{low_line};
 
-use crate::line::{write_opened, write_plain};
+use crate::line::write_boxed;
 use desk_io::{Failed, Pen, Sink};
 use fixed_point::Spot;
 use picture::Ink;
@@ -54,7 +54,7 @@ fn write_lowered<'a, S: Sink>(
     ensures cause { HasCause (S.faults sink.old) (S.faults sink.new) result }
 {
     let (before, behind) = name;
-    write_opened(ink, a, corner, before, pen, sink)?;
+    write_boxed(ink, a, corner, (before, b"_{"), pen, sink)?;
     write_lower(behind, pen, sink)?;
     pen.push(sink, b"}$}}\n")
 }
@@ -74,7 +74,7 @@ pub fn write_name<'a, S: Sink>(
     ensures cause { HasCause (S.faults sink.old) (S.faults sink.new) result }
 {
     match first_low(name) {
-        None => write_plain(ink, a, corner, name, pen, sink),
+        None => write_boxed(ink, a, corner, (name, b"$}}\n"), pen, sink),
         Some(i) => write_lowered(ink, a, corner, (&name[..i], &name[i + 1..]), pen, sink),
     }
 }

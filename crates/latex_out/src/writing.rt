@@ -7,7 +7,7 @@ ghost use Rattle.picture.specs.Shapes.{IsNearby, IsDrawable, IsNamed, IsWritten}
 ghost use Rattle.latex_out.specs.Latex.{dash_text, dashed_text, label_text, shape_text, shapes_text, latex_text};
 
 use crate::dash::{MOST_PARTS, division, gaps_in};
-use crate::line::{write_circle, write_dot, write_head, write_line, write_ring};
+use crate::line::{write_circle, write_head, write_line, write_mark};
 use crate::name::write_name;
 use crate::side::{corner_of, name_place};
 use circle_cut::MOST_NORMAL;
@@ -114,8 +114,8 @@ fn write_shape<S: Sink>(
         Shape::Segment(a, b) => write_line(ink, a, b, pen, sink),
         Shape::Dashed(a, b) => write_dashed(ink, &a, &b, pen, sink),
         Shape::Whole(a, radius) => write_circle(ink, a, diameter(radius), pen, sink),
-        Shape::Dot(a) => write_dot(ink, a, pen, sink),
-        Shape::Ring(a) => write_ring(ink, a, pen, sink),
+        Shape::Dot(a) => write_mark(ink, a, b"*{0.8}", pen, sink),
+        Shape::Ring(a) => write_mark(ink, a, b"{1.2}", pen, sink),
         Shape::Label(a, side, point) => write_label(names, ink, (a, side, point), pen, sink),
     }
 }
