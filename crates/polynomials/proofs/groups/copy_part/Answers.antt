@@ -1,6 +1,5 @@
-use Rattle.std.proofs.Common.{◌≡◌, ◌<◌, ◌+◌, ◌-◌, ◌++◌, ◌∷◌, [], suc, length, length-append, take, drop, get_or, sym, ◌∙◌, ap, arith}
+use Rattle.std.proofs.Common.{◌≡◌, ◌<◌, ◌+◌, ◌-◌, ◌++◌, ◌∷◌, [], suc, length, length-append, take, drop, sym, ◌∙◌, ap, arith}
 use Rattle.poly_model.specs.Standard.{polynomial_of}
-use Rattle.poly_model.proofs.Within.{standard-of}
 use Rattle.term_store.specs.States.{list_at}
 use Rattle.term_store.proofs.Making as making
 use Rattle.polynomials.specs.Held.{slot_of}
