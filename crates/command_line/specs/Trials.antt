@@ -13,21 +13,21 @@ use Rattle.command_line.specs.Proving.{log_text}
 use Rattle.command_line.specs.declared.trial.Summary.{Summary}
 
 -- Three kinds of verdict.
-abbrev pub is_proved : Verdict → Bool
+unfoldable pub is_proved : Verdict → Bool
 is_proved verdict.Proved = true
 is_proved (verdict.Under cs) = false
 is_proved (verdict.NotProved path k r) = false
 is_proved (verdict.Degenerate path) = false
 is_proved (verdict.Left path reason) = false
 
-abbrev pub is_under : Verdict → Bool
+unfoldable pub is_under : Verdict → Bool
 is_under verdict.Proved = false
 is_under (verdict.Under cs) = true
 is_under (verdict.NotProved path k r) = false
 is_under (verdict.Degenerate path) = false
 is_under (verdict.Left path reason) = false
 
-abbrev pub is_other : Verdict → Bool
+unfoldable pub is_other : Verdict → Bool
 is_other verdict.Proved = false
 is_other (verdict.Under cs) = false
 is_other (verdict.NotProved path k r) = true

@@ -20,7 +20,7 @@ use desk_io::{Pen, Sink};
 use gcl_names::resolve;
 use gcl_reader::{GclFault, read};
 use itoa::Buffer;
-use log_checker::{CheckFault, check_text};
+use log_checker::check_text;
 use poly_model::Domain;
 use proof_log::{Log, Proof};
 use std::alloc::{AllocError, Global};
@@ -40,18 +40,21 @@ pub struct Summary {
     pub bytes: usize,
 }
 
+#[tactic(auto, unfolding(crate::specs::Trials::is_proved))]
 fn is_proved(verdict: &Verdict) -> bool
     ensures { result ≡ is_proved verdict.now }
 {
     matches!(verdict, Verdict::Proved)
 }
 
+#[tactic(auto, unfolding(crate::specs::Trials::is_under))]
 fn is_under(verdict: &Verdict) -> bool
     ensures { result ≡ is_under verdict.now }
 {
     matches!(verdict, Verdict::Under(_))
 }
 
+#[tactic(auto, unfolding(crate::specs::Trials::is_other))]
 fn is_other(verdict: &Verdict) -> bool
     ensures { result ≡ is_other verdict.now }
 {
@@ -101,8 +104,7 @@ fn confirm<D: Domain>(alloc: Global, domain: &D, log: &Log, bytes: &[u8]) -> Res
 {
     match check_text(alloc, domain, bytes) {
         Ok(_) => Ok(()),
-        Err(CheckFault::OutOfMemory) => Err(AllocError),
-        Err(_) => unreachable!(),
+        Err(_) => Err(AllocError),
     }
 }
 
