@@ -71,7 +71,7 @@ fn main(rt: HostRuntime) -> Result<()> {
         bail!("one file is wanted")
     };
     let bytes = fs::read(&rt, name.as_str())?;
-    if bytes.len() > MOST_BYTES {
+    if bytes.len() as u64 > MOST_BYTES {
         bail!("it is too large")
     }
     let Ok(file) = read(alloc, &bytes) else {
