@@ -1,7 +1,8 @@
-ghost use Rattle.std.specs.Prelude.{◌≡◌, ◌≢◌, ◌≤◌, ◌<◌, ◌+◌, ◌++◌, ◌∷◌, [], drop, IsTrue, IfSome, SomeIff, ◌^◌, IfNone, IfOk, IfErr, OnSome, length, Ok, Err, Some, false, unsigned_abs, ◌+ℤ◌, ◌*ℤ◌};
+ghost use Rattle.std.specs.Prelude.{◌≡◌, ◌≢◌, ◌≤◌, ◌<◌, ◌+◌, ◌++◌, ◌∷◌, [], drop, IsTrue, IfSome, SomeIff, ◌^◌, IfNone, IfOk, IfErr, OnSome, length, get_or, Ok, Err, Some, false, unsigned_abs, ◌+ℤ◌, ◌*ℤ◌};
 ghost use Rattle.polynomials.specs.Summed.{summed};
-ghost use Rattle.poly_model.specs.Polynomial.{IsDescending, poly_sum};
+ghost use Rattle.poly_model.specs.Polynomial.{IsDescending, poly_sum, monomial_cmp};
 ghost use Rattle.poly_model.specs.Standard.{polynomial_of, are_low};
+ghost use Rattle.poly_model.specs.declared.term.Term.{Term};
 ghost use Rattle.poly_model.specs.declared.limits.TheConstants.{MOST_VARIABLES, MOST_SIZE};
 ghost use Rattle.std.specs.FinMap.{insert};
 ghost use Rattle.term_store.specs.States.{IsLive, list_at};
@@ -93,6 +94,7 @@ fn copy_rest<S: TermStore>(s: &mut S, out: Slot, q: Slot, from: usize)
 
 /// Appends the sum of two terms with one monomial to the newest list, unless it is 0; false exactly where it passes its
 /// size.
+#[inline(always)]
 fn push_sum<S: TermStore>(s: &mut S, out: Slot, x: &Term, y: &Term) -> bool
     requires newest { (S.state s.old).newest ≡ Some out.0 }
     requires new { IsLive (S.state s.old).lists out.0 }
@@ -112,6 +114,20 @@ fn push_sum<S: TermStore>(s: &mut S, out: Slot, x: &Term, y: &Term) -> bool
         s.push(out, Term { coef, exps: y.exps });
     }
     true
+}
+
+/// How the monomials at a place of each of two lists compare, where they stand.
+#[inline(always)]
+fn compare_at<S: TermStore>(s: &S, a: Slot, i: usize, b: Slot, j: usize) -> Ordering
+    requires live_a { IsLive (S.state s.now).lists a.0 }
+    requires live_b { IsLive (S.state s.now).lists b.0 }
+    requires below_a { i < length (list_at (S.state s.now).lists a.0) }
+    requires below_b { j < length (list_at (S.state s.now).lists b.0) }
+    ensures { (x y : Term) → x ≡ get_or (list_at (S.state s.now).lists a.0) i x
+        → y ≡ get_or (list_at (S.state s.now).lists b.0) j y → result
+        ≡ monomial_cmp x.exps y.exps }
+{
+    compare_monomials(&s.terms(a)[i].exps, &s.terms(b)[j].exps)
 }
 
 /// The sum of two lists, in a new list; None exactly where a coefficient passes its size.
@@ -140,17 +156,19 @@ pub fn merge<S: TermStore>(s: &mut S, a: Slot, b: Slot) -> Option<Slot>
     let out = s.fresh();
     let (mut i, mut j) = (0, 0);
     while i < end_a && j < end_b {
-        let (x, y) = (s.get(a, i), s.get(b, j));
-        match compare_monomials(&x.exps, &y.exps) {
+        match compare_at(s, a, i, b, j) {
             Ordering::Greater => {
+                let x = s.get(a, i);
                 s.push(out, x);
                 i += 1;
             }
             Ordering::Less => {
+                let y = s.get(b, j);
                 s.push(out, y);
                 j += 1;
             }
             Ordering::Equal => {
+                let (x, y) = (s.get(a, i), s.get(b, j));
                 if !push_sum(s, out, &x, &y) {
                     s.free(out);
                     return None;

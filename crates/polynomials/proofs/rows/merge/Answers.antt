@@ -1,4 +1,4 @@
-use Rattle.std.proofs.Common.{◌≡◌, ◌++◌, ◌∷◌, [], drop, length, length-append, sym, ◌∙◌, ap, subst, arith, refl, inl, inr}
+use Rattle.std.proofs.Common.{◌≡◌, ◌++◌, ◌∷◌, [], drop, get_or, length, length-append, sym, ◌∙◌, ap, subst, arith, refl, inl, inr}
 use Rattle.std.specs.Prelude.{◌⊎◌}
 use Rattle.poly_model.specs.Standard.{polynomial_of}
 use Rattle.poly_model.specs.Standard.{are_bounded}
@@ -26,14 +26,38 @@ loop-i-init g c =
 pub get-x-requires-clause-live : goal.get-x-requires-clause-live
 get-x-requires-clause-live g c = making.makes-other-live _ _ _ _ c.loop-i.invariant.made c.requires.live_a
 
+pub get-x-requires-in-Equal-clause-live : goal.get-x-requires-in-Equal-clause-live
+get-x-requires-in-Equal-clause-live g c = making.makes-other-live _ _ _ _ c.loop-i.invariant.made c.requires.live_a
+
+pub compare_at-requires-clause-live_a : goal.compare_at-requires-clause-live_a
+compare_at-requires-clause-live_a g c = making.makes-other-live _ _ _ _ c.loop-i.invariant.made c.requires.live_a
+
 pub get-x-requires-clause-below : goal.get-x-requires-clause-below
 get-x-requires-clause-below g c = steps.readable _ _ _ _ _ c.loop-i.invariant.made c.requires.live_a (omega arith)
+
+pub get-x-requires-in-Equal-clause-below : goal.get-x-requires-in-Equal-clause-below
+get-x-requires-in-Equal-clause-below g c = steps.readable _ _ _ _ _ c.loop-i.invariant.made c.requires.live_a (omega arith)
+
+pub compare_at-requires-clause-below_a : goal.compare_at-requires-clause-below_a
+compare_at-requires-clause-below_a g c = steps.readable _ _ _ _ _ c.loop-i.invariant.made c.requires.live_a (omega arith)
 
 pub get-y-requires-clause-live : goal.get-y-requires-clause-live
 get-y-requires-clause-live g c = making.makes-other-live _ _ _ _ c.loop-i.invariant.made c.requires.live_b
 
+pub get-y-requires-in-Equal-clause-live : goal.get-y-requires-in-Equal-clause-live
+get-y-requires-in-Equal-clause-live g c = making.makes-other-live _ _ _ _ c.loop-i.invariant.made c.requires.live_b
+
+pub compare_at-requires-clause-live_b : goal.compare_at-requires-clause-live_b
+compare_at-requires-clause-live_b g c = making.makes-other-live _ _ _ _ c.loop-i.invariant.made c.requires.live_b
+
 pub get-y-requires-clause-below : goal.get-y-requires-clause-below
 get-y-requires-clause-below g c = steps.readable _ _ _ _ _ c.loop-i.invariant.made c.requires.live_b (omega arith)
+
+pub get-y-requires-in-Equal-clause-below : goal.get-y-requires-in-Equal-clause-below
+get-y-requires-in-Equal-clause-below g c = steps.readable _ _ _ _ _ c.loop-i.invariant.made c.requires.live_b (omega arith)
+
+pub compare_at-requires-clause-below_b : goal.compare_at-requires-clause-below_b
+compare_at-requires-clause-below_b g c = steps.readable _ _ _ _ _ c.loop-i.invariant.made c.requires.live_b (omega arith)
 
 pub loop-i-preserved-in-Greater : goal.loop-i-preserved-in-Greater
 loop-i-preserved-in-Greater g c =
@@ -42,9 +66,12 @@ loop-i-preserved-in-Greater g c =
     let i = c.loop-i.i in
     let j = c.loop-i.j in
     let x = c.get-x.result in
-    let y = c.get-y.result in
-    let first = steps.dropped xs i x (omega arith) (steps.read _ _ _ _ _ x c.loop-i.invariant.made c.requires.live_a (omega arith) c.get-x.ensures) in
-    let second = steps.dropped ys j y (omega arith) (steps.read _ _ _ _ _ y c.loop-i.invariant.made c.requires.live_b (omega arith) c.get-y.ensures) in
+    let at_x = c.get-x.ensures in
+    let zs = list_at (g.S.TermStore.state c.loop-i.s).lists c.args.b.0 in
+    let y = get_or zs j x in
+    let at_y = steps.own-item zs j x (steps.readable _ _ _ _ _ c.loop-i.invariant.made c.requires.live_b (omega arith)) in
+    let first = steps.dropped xs i x (omega arith) (steps.read _ _ _ _ _ x c.loop-i.invariant.made c.requires.live_a (omega arith) at_x) in
+    let second = steps.dropped ys j y (omega arith) (steps.read _ _ _ _ _ y c.loop-i.invariant.made c.requires.live_b (omega arith) at_y) in
     let m = making.makes-push _ _ _ _ x c.loop-i.invariant.made c.push.ensures.lists c.push.ensures.spare in
     let before = merging.shaped _ _ _ _ _ _ _ refl first second c.loop-i.invariant.merging in
     record {
@@ -53,7 +80,7 @@ loop-i-preserved-in-Greater g c =
       long = omega (arith, ap length m.1, length-append (list_at (g.S.TermStore.state c.loop-i.s).lists c.fresh-out.result.0) (x ∷ []), c.loop-i.invariant.long);
       first = omega arith;
       second = omega arith;
-      merging = merging.shaped _ _ _ _ _ _ _ m.1 refl (sym second) (merging.greater _ x y _ _ _ before (sym c.in-Greater.ensures));
+      merging = merging.shaped _ _ _ _ _ _ _ m.1 refl (sym second) (merging.greater _ x y _ _ _ before (sym (c.in-Greater.ensures x y at_x at_y)));
     }
 
 pub loop-i-preserved-in-Less : goal.loop-i-preserved-in-Less
@@ -62,10 +89,13 @@ loop-i-preserved-in-Less g c =
     let ys = list_at (g.S.TermStore.state c.args.s.now).lists c.args.b.0 in
     let i = c.loop-i.i in
     let j = c.loop-i.j in
-    let x = c.get-x.result in
     let y = c.get-y.result in
-    let first = steps.dropped xs i x (omega arith) (steps.read _ _ _ _ _ x c.loop-i.invariant.made c.requires.live_a (omega arith) c.get-x.ensures) in
-    let second = steps.dropped ys j y (omega arith) (steps.read _ _ _ _ _ y c.loop-i.invariant.made c.requires.live_b (omega arith) c.get-y.ensures) in
+    let at_y = c.get-y.ensures in
+    let zs = list_at (g.S.TermStore.state c.loop-i.s).lists c.args.a.0 in
+    let x = get_or zs i y in
+    let at_x = steps.own-item zs i y (steps.readable _ _ _ _ _ c.loop-i.invariant.made c.requires.live_a (omega arith)) in
+    let first = steps.dropped xs i x (omega arith) (steps.read _ _ _ _ _ x c.loop-i.invariant.made c.requires.live_a (omega arith) at_x) in
+    let second = steps.dropped ys j y (omega arith) (steps.read _ _ _ _ _ y c.loop-i.invariant.made c.requires.live_b (omega arith) at_y) in
     let m = making.makes-push _ _ _ _ y c.loop-i.invariant.made c.push-in-Less.ensures.lists c.push-in-Less.ensures.spare in
     let before = merging.shaped _ _ _ _ _ _ _ refl first second c.loop-i.invariant.merging in
     record {
@@ -74,17 +104,17 @@ loop-i-preserved-in-Less g c =
       long = omega (arith, ap length m.1, length-append (list_at (g.S.TermStore.state c.loop-i.s).lists c.fresh-out.result.0) (y ∷ []), c.loop-i.invariant.long);
       first = omega arith;
       second = omega arith;
-      merging = merging.shaped _ _ _ _ _ _ _ m.1 (sym first) refl (merging.less _ x y _ _ _ before (sym c.in-Less.ensures));
+      merging = merging.shaped _ _ _ _ _ _ _ m.1 (sym first) refl (merging.less _ x y _ _ _ before (sym (c.in-Less.ensures x y at_x at_y)));
     }
 
 pub push_sum-requires-clause-new : goal.push_sum-requires-clause-new
 push_sum-requires-clause-new g c = making.makes-live _ _ _ c.loop-i.invariant.made
 
 pub push_sum-requires-clause-x : goal.push_sum-requires-clause-x
-push_sum-requires-clause-x g c = steps.bounded-at _ c.loop-i.i c.get-x.result (omega arith) (steps.read _ _ _ _ _ c.get-x.result c.loop-i.invariant.made c.requires.live_a (omega arith) c.get-x.ensures) c.requires.bounded_a
+push_sum-requires-clause-x g c = steps.bounded-at _ c.loop-i.i c.get-x-in-Equal.result (omega arith) (steps.read _ _ _ _ _ c.get-x-in-Equal.result c.loop-i.invariant.made c.requires.live_a (omega arith) c.get-x-in-Equal.ensures) c.requires.bounded_a
 
 pub push_sum-requires-clause-y : goal.push_sum-requires-clause-y
-push_sum-requires-clause-y g c = steps.bounded-at _ c.loop-i.j c.get-y.result (omega arith) (steps.read _ _ _ _ _ c.get-y.result c.loop-i.invariant.made c.requires.live_b (omega arith) c.get-y.ensures) c.requires.bounded_b
+push_sum-requires-clause-y g c = steps.bounded-at _ c.loop-i.j c.get-y-in-Equal.result (omega arith) (steps.read _ _ _ _ _ c.get-y-in-Equal.result c.loop-i.invariant.made c.requires.live_b (omega arith) c.get-y-in-Equal.ensures) c.requires.bounded_b
 
 pub loop-i-preserved : goal.loop-i-preserved
 loop-i-preserved g c =
@@ -92,10 +122,12 @@ loop-i-preserved g c =
     let ys = list_at (g.S.TermStore.state c.args.s.now).lists c.args.b.0 in
     let i = c.loop-i.i in
     let j = c.loop-i.j in
-    let x = c.get-x.result in
-    let y = c.get-y.result in
-    let first = steps.dropped xs i x (omega arith) (steps.read _ _ _ _ _ x c.loop-i.invariant.made c.requires.live_a (omega arith) c.get-x.ensures) in
-    let second = steps.dropped ys j y (omega arith) (steps.read _ _ _ _ _ y c.loop-i.invariant.made c.requires.live_b (omega arith) c.get-y.ensures) in
+    let x = c.get-x-in-Equal.result in
+    let at_x = c.get-x-in-Equal.ensures in
+    let y = c.get-y-in-Equal.result in
+    let at_y = c.get-y-in-Equal.ensures in
+    let first = steps.dropped xs i x (omega arith) (steps.read _ _ _ _ _ x c.loop-i.invariant.made c.requires.live_a (omega arith) at_x) in
+    let second = steps.dropped ys j y (omega arith) (steps.read _ _ _ _ _ y c.loop-i.invariant.made c.requires.live_b (omega arith) at_y) in
     let h = c.push_sum.ensures.added c.if-not-push_sum.false in
     let m = making.makes-extends _ _ _ _ _ c.loop-i.invariant.made h.1 in
     let before = merging.shaped _ _ _ _ _ _ _ refl first second c.loop-i.invariant.merging in
@@ -105,7 +137,7 @@ loop-i-preserved g c =
       long = omega (arith, ap length m.1, length-append (list_at (g.S.TermStore.state c.loop-i.s).lists c.fresh-out.result.0) (summed x y), merging.summed-length x y, c.loop-i.invariant.long);
       first = omega arith;
       second = omega arith;
-      merging = merging.shaped _ _ _ _ _ _ _ m.1 refl refl (merging.both_equal _ x y _ _ _ before (sym c.in-Equal.ensures) h.0);
+      merging = merging.shaped _ _ _ _ _ _ _ m.1 refl refl (merging.both_equal _ x y _ _ _ before (sym (c.in-Equal.ensures x y at_x at_y)) h.0);
     }
 
 pub free-requires : goal.free-requires
@@ -117,12 +149,14 @@ returns-then-not-push_sum-clause-passes g c =
     let ys = list_at (g.S.TermStore.state c.args.s.now).lists c.args.b.0 in
     let i = c.loop-i.i in
     let j = c.loop-i.j in
-    let x = c.get-x.result in
-    let y = c.get-y.result in
-    let first = steps.dropped xs i x (omega arith) (steps.read _ _ _ _ _ x c.loop-i.invariant.made c.requires.live_a (omega arith) c.get-x.ensures) in
-    let second = steps.dropped ys j y (omega arith) (steps.read _ _ _ _ _ y c.loop-i.invariant.made c.requires.live_b (omega arith) c.get-y.ensures) in
+    let x = c.get-x-in-Equal.result in
+    let at_x = c.get-x-in-Equal.ensures in
+    let y = c.get-y-in-Equal.result in
+    let at_y = c.get-y-in-Equal.ensures in
+    let first = steps.dropped xs i x (omega arith) (steps.read _ _ _ _ _ x c.loop-i.invariant.made c.requires.live_a (omega arith) at_x) in
+    let second = steps.dropped ys j y (omega arith) (steps.read _ _ _ _ _ y c.loop-i.invariant.made c.requires.live_b (omega arith) at_y) in
     let before = merging.shaped _ _ _ _ _ _ _ refl first second c.loop-i.invariant.merging in
-    merging.passes _ x y _ _ _ before (sym c.in-Equal.ensures) (c.push_sum.ensures.passes c.if-not-push_sum.true).0
+    merging.passes _ x y _ _ _ before (sym (c.in-Equal.ensures x y at_x at_y)) (c.push_sum.ensures.passes c.if-not-push_sum.true).0
 
 pub returns-then-not-push_sum-clause-kept : goal.returns-then-not-push_sum-clause-kept
 returns-then-not-push_sum-clause-kept g c =
