@@ -29,7 +29,7 @@ split-take (suc h) (suc n) [] le = sym (take-none (suc n - suc h))
 split-take (suc h) (suc n) (x ∷ xs) le =
     ap (λ l. x ∷ l) (split-take h n xs (omega arith)) ∙ ap (λ m. x ∷ (take h xs ++ take m (drop h xs))) (let e : n - h ≡ suc n - suc h = omega arith in e)
 
-drop-more : (i h : ℕ) (xs : List Term) → drop (i + h) xs ≡ drop h (drop i xs)
+pub drop-more : (i h : ℕ) (xs : List Term) → drop (i + h) xs ≡ drop h (drop i xs)
 drop-more zero h xs = ap (λ m. drop m xs) (let e : zero + h ≡ h = omega arith in e)
 drop-more (suc i) h [] = ap (λ m. drop m []) (let e : suc i + h ≡ suc (i + h) = omega arith in e) ∙ sym (none h)
   where
@@ -120,7 +120,7 @@ times-split h n k le = ap (λ m. m * k) (let e : n ≡ h + (n - h) = omega arith
 pub product-one : (n : ℕ) (es : List ℕ) (c : ℤ) (q : Polynomial) → IsDescending n ((es, c) ∷ []) → IsDescending n q → poly_product ((es, c) ∷ []) q ≡ multiple es c q
 product-one n es c q h k = add_multiple-is es c q [] ∙ add_none n (multiple es c q) (descending-multiple n es c q h.0 h.1 k)
 
-sum-assoc : (n : ℕ) (p q r : Polynomial) → IsDescending n p → IsDescending n q → IsDescending n r → poly_sum (poly_sum p q) r ≡ poly_sum p (poly_sum q r)
+pub sum-assoc : (n : ℕ) (p q r : Polynomial) → IsDescending n p → IsDescending n q → IsDescending n r → poly_sum (poly_sum p q) r ≡ poly_sum p (poly_sum q r)
 sum-assoc n p q r h k l =
     same_coefficients n (poly_sum (poly_sum p q) r) (poly_sum p (poly_sum q r)) (descending-sum n (poly_sum p q) r (descending-sum n p q h k) l) (descending-sum n p (poly_sum q r) h (descending-sum n q r k l))
     (λ x. sums.same_add_assoc integers_ring (at_monomial-additive x) p q r)

@@ -8,4 +8,5 @@ pub mod Reading
 pub mod Results
 pub mod Unlimited
 pub mod Halving
+pub mod RowGroups
 pub mod Words

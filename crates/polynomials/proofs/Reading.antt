@@ -7,7 +7,10 @@ use Rattle.std.proofs.lemmas.List.{drop-drop}
 use Rattle.std.proofs.lemmas.Bool.{and_parts, eqb-true, leb-true}
 use Rattle.std.proofs.lemmas.Nat.Gcd.{same_from_IsGcd, dvd_refl, dvd_of_mod-eq-zero, le_of_dvd}
 use Prim.Native.Nat.{◌∣◌}
-use Rattle.poly_model.specs.Polynomial.{Polynomial, IsDescending}
+use Rattle.std.specs.Cmp.{nat_cmp_is}
+use Rattle.std.specs.Ordering.{nat_cmp, ordering_then}
+use Rattle.std.specs.declared.cmp.Ordering.TheVariants.{Equal}
+use Rattle.poly_model.specs.Polynomial.{Polynomial, IsDescending, monomial_cmp}
 use Rattle.poly_model.specs.Content.{coefficients_gcd, is_negative, begins_negative, signed_by}
 use Rattle.poly_model.specs.Standard.{entry_of, polynomial_of, is_bounded, are_bounded}
 use Rattle.poly_model.specs.Reduction.{same_entry, same, degree_at, monomial_class, class_of, multiplier_of}
@@ -72,6 +75,57 @@ monomial-within (x ∷ xs) = by (monomial_class xs) (monomial-within xs) (class-
 pub class-within : (n : ℕ) (p : Polynomial) → IsDescending n p → class_of p ≤ n
 class-within n [] h = omega arith
 class-within n ((es, c) ∷ p) h = let f = monomial-within es in let e = h.0 in let r = class-within n p h.3 in omega (arith, f, e, r)
+
+-- ---- monomials without variables from a place on
+class_by-none : (x k : ℕ) → class_by x k ≤ 0 → (k ≡ 0) × (x ≡ 0)
+class_by-none x zero le = (refl, unused (x == 0) refl le)
+  where
+    unused : (t : Bool) → (x == 0) ≡ t → (if t then 0 else 1) ≤ 0 → x ≡ 0
+    unused true q h = eqb-true x 0 q
+    unused false q h = absurd (omega (arith, h))
+class_by-none x (suc k) le = absurd (omega (arith, le))
+
+class_by-less : (x k n : ℕ) → class_by x k ≤ suc n → k ≤ n
+class_by-less x zero n le = omega arith
+class_by-less x (suc k) n le = omega (arith, le)
+
+pub unused-equal : (n : ℕ) (xs ys : List ℕ) → length xs ≡ length ys → monomial_class xs ≤ n → monomial_class ys ≤ n → monomial_cmp (drop n xs) (drop n ys) ≡ Equal
+unused-equal zero [] [] same a b = refl
+unused-equal (suc n) [] [] same a b = refl
+unused-equal n [] (y ∷ ys) same a b = absurd (omega (arith, same))
+unused-equal n (x ∷ xs) [] same a b = absurd (omega (arith, same))
+unused-equal zero (x ∷ xs) (y ∷ ys) same a b =
+    let first = class_by-none x (monomial_class xs) (subst (λ k. k ≤ 0) (class-is x xs) a) in
+    let second = class_by-none y (monomial_class ys) (subst (λ k. k ≤ 0) (class-is y ys) b) in
+    let rest : monomial_cmp xs ys ≡ Equal = unused-equal zero xs ys (omega (arith, same)) (omega (arith, first.0)) (omega (arith, second.0)) in
+    ap (λ r. ordering_then r (nat_cmp x y)) rest ∙ sym (nat_cmp_is x y Equal (first.1 ∙ sym second.1))
+unused-equal (suc n) (x ∷ xs) (y ∷ ys) same a b =
+    unused-equal n xs ys (omega (arith, same))
+    (class_by-less x (monomial_class xs) n (subst (λ k. k ≤ suc n) (class-is x xs) a))
+    (class_by-less y (monomial_class ys) n (subst (λ k. k ≤ suc n) (class-is y ys) b))
+
+-- a monomial without variables from a place on has its greatest one below
+pub class-below : (n : ℕ) (xs : List ℕ) → monomial_class (drop n xs) ≡ 0 → monomial_class xs ≤ n
+class-below zero xs none = omega (arith, none)
+class-below (suc n) [] none = omega arith
+class-below (suc n) (x ∷ xs) none =
+    let rest = class-below n xs none in
+    subst (λ k. k ≤ suc n) (sym (class-is x xs)) (more (monomial_class xs) rest)
+  where
+    more : (k : ℕ) → k ≤ n → class_by x k ≤ suc n
+    more zero le = let t = one_at_most (x == 0) in omega (arith, t)
+    more (suc k) le = omega (arith, le)
+
+pub class-none : (xs : List Term) → length xs ≡ 0 → class_of (polynomial_of xs) ≤ 0
+class-none [] e = omega arith
+class-none (x ∷ xs) e = absurd (omega (arith, e))
+
+pub class-at : (xs : List Term) (i : ℕ) (t : Term) → i < length xs → t ≡ get_or xs i t → monomial_class t.exps ≤ class_of (polynomial_of xs)
+class-at [] i t below at = absurd (omega (arith, below))
+class-at (x ∷ xs) zero t below at =
+    let same = ap (λ (y : Term). monomial_class y.exps) at in omega (arith, same)
+class-at (x ∷ xs) (suc i) t below at =
+    let rest = class-at xs i t (omega (arith, below)) at in omega (arith, rest)
 
 -- ---- degrees
 pub degree-next : (var : ℕ) (xs : List Term) (i : ℕ) (t : Term) → i < length xs → t ≡ get_or xs i t

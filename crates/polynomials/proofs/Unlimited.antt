@@ -109,7 +109,7 @@ rows-on : (es : List ℕ) (c : ℤ) (p q sum s : Polynomial) → bounded_row es 
 rows-on es c p q sum s e = ap (λ r. elim r as (λ _. Result Polynomial Limit) [ Err limit ↦ Err limit | Ok s ↦ bounded_rows p q s ]) e
 
 -- where the sizes and the terms of all products are few enough, no row meets a limit
-rows-unlimited : (p q sum : Polynomial) → sizes_of sum + sizes_of p * sizes_of q ≤ MOST_SIZE → length sum + length p * length q ≤ MOST_TERMS
+pub rows-unlimited : (p q sum : Polynomial) → sizes_of sum + sizes_of p * sizes_of q ≤ MOST_SIZE → length sum + length p * length q ≤ MOST_TERMS
     → (r : Polynomial) × (bounded_rows p q sum ≡ Ok r)
 rows-unlimited [] q sum sizes terms = (sum, refl)
 rows-unlimited ((es, c) ∷ p) q sum sizes terms =

@@ -10,16 +10,13 @@ ghost use Rattle.polynomials.specs.Sizes.{sizes_of, part_of};
 
 use crate::poly::Poly;
 use crate::rows::{merge, multiple};
-use poly_model::{MOST_SIZE, MOST_TERMS};
+use poly_model::{MOST_SIZE, MOST_TERMS, Term};
 use term_store::{Slot, TermStore};
 
 /// The sum of the sizes of the coefficients, where it has at most 128 bits.
-fn sizes<S: TermStore>(s: &S, a: Slot) -> Option<u128>
-    requires { IsLive (S.state s.now).lists a.0 }
-    ensures { IfSome result (λ n. n
-        ≡ sizes_of (polynomial_of (list_at (S.state s.now).lists a.0))) }
+pub fn sizes(terms: &[Term]) -> Option<u128>
+    ensures { IfSome result (λ n. n ≡ sizes_of (polynomial_of terms.now)) }
 {
-    let terms = s.terms(a);
     let mut sum: u128 = 0;
     for term in terms {
         sum = sum.checked_add(term.coef.unsigned_abs())?;
@@ -43,7 +40,7 @@ pub fn is_unlimited<S: TermStore>(s: &S, a: Slot, b: Slot) -> bool
     if s.len(a) * s.len(b) > MOST_TERMS {
         return false;
     }
-    let (Some(first), Some(second)) = (sizes(s, a), sizes(s, b)) else {
+    let (Some(first), Some(second)) = (sizes(s.terms(a)), sizes(s.terms(b))) else {
         return false;
     };
     match first.checked_mul(second) {
@@ -53,7 +50,7 @@ pub fn is_unlimited<S: TermStore>(s: &S, a: Slot, b: Slot) -> bool
 }
 
 /// The product of some terms of a with b, in a new list: that of the first half of them, added to that of the others.
-fn halves<S: TermStore>(s: &mut S, a: Poly, from: usize, count: usize, b: Poly) -> Slot
+pub fn by_halves<S: TermStore>(s: &mut S, a: Poly, from: usize, count: usize, b: Poly) -> Slot
     requires a { IsPoly (S.state s.old) a }
     requires b { IsPoly (S.state s.old) b }
     requires some { 0 < count }
@@ -75,8 +72,8 @@ fn halves<S: TermStore>(s: &mut S, a: Poly, from: usize, count: usize, b: Poly) 
         };
     }
     let half = count / 2;
-    let first = halves(s, a, from, half, b);
-    let second = halves(s, a, from + half, count - half, b);
+    let first = by_halves(s, a, from, half, b);
+    let second = by_halves(s, a, from + half, count - half, b);
     let sum = match merge(s, first, second) {
         Some(sum) => sum,
         None => unreachable!(),
@@ -87,14 +84,14 @@ fn halves<S: TermStore>(s: &mut S, a: Poly, from: usize, count: usize, b: Poly) 
 }
 
 /// The product of all terms of a with b, in a new list.
-fn rows_of<S: TermStore>(s: &mut S, a: Poly, b: Poly) -> Slot
+pub fn rows_of<S: TermStore>(s: &mut S, a: Poly, b: Poly) -> Slot
     requires a { IsPoly (S.state s.old) a }
     requires b { IsPoly (S.state s.old) b }
     requires terms { length (polynomial_at (S.state s.old) a)
         * length (polynomial_at (S.state s.old) b) ≤ MOST_TERMS }
     requires sizes { sizes_of (polynomial_at (S.state s.old) a)
         * sizes_of (polynomial_at (S.state s.old) b) ≤ MOST_SIZE }
-    requires room { ARITH_UNITS ≤ (S.state s.old).spare }
+    requires room { 6 * MOST_TERMS ≤ (S.state s.old).spare }
     ensures made { Makes (S.state s.old) (S.state s.new) result.0 }
     ensures value { polynomial_of (list_at (S.state s.new).lists result.0)
         ≡ poly_product (polynomial_at (S.state s.old) a) (polynomial_at (S.state s.old) b) }
@@ -103,7 +100,7 @@ fn rows_of<S: TermStore>(s: &mut S, a: Poly, b: Poly) -> Slot
     if count == 0 {
         return s.fresh();
     }
-    halves(s, a, 0, count, b)
+    by_halves(s, a, 0, count, b)
 }
 
 /// The product where no limit is met, in a new list. The rows are those of the shorter factor.

@@ -6,6 +6,7 @@ mod contents;
 mod copies;
 mod degrees;
 mod exponents;
+mod groups;
 mod halves;
 mod key;
 mod laws;

@@ -1,14 +1,16 @@
-ghost use Rattle.std.specs.Prelude.{◌≡◌, ◌≤◌, ◌<◌, ◌+◌, IsTrue, IfOk, IfErr, length, Ok, Err, true, nat_le, unsigned_abs, pos, ◌≢◌};
+ghost use Rattle.std.specs.Prelude.{◌≡◌, ◌≤◌, ◌<◌, ◌+◌, ◌*◌, IsTrue, IfOk, IfErr, length, Ok, Err, true, nat_le, unsigned_abs, pos, ◌≢◌};
 ghost use Rattle.poly_model.specs.Polynomial.{IsDescending, poly_sum};
 ghost use Rattle.poly_model.specs.Standard.{polynomial_of, are_low};
 ghost use Rattle.poly_model.specs.declared.limits.TheConstants.{MOST_VARIABLES, MOST_SIZE, MOST_TERMS, ARITH_UNITS};
 ghost use Rattle.term_store.specs.States.{IsLive, list_at};
 ghost use Rattle.term_store.specs.Changes.{Makes, Keeps, given_up};
 ghost use Rattle.poly_model.specs.Standard.{are_bounded};
-ghost use Rattle.poly_model.specs.Bounded.{multiple, bounded_sum, bounded_row, bounded_product, degrees_fit};
+ghost use Rattle.poly_model.specs.Bounded.{multiple, bounded_sum, bounded_row, bounded_rows, bounded_product, degrees_fit};
 ghost use Rattle.poly_model.proofs.Within.{all_low};
-ghost use Rattle.polynomials.specs.Held.{Outcome, polynomial_at, IsPoly, Answers, Gives};
+ghost use Rattle.polynomials.specs.Held.{Outcome, polynomial_at, slot_of, IsPoly, Answers, Gives};
+ghost use Rattle.polynomials.specs.Sizes.{sizes_of, part_of};
 
+use crate::groups::{add_group, next_rows};
 use crate::halves::{is_unlimited, unlimited_product};
 use crate::poly::Poly;
 use crate::rows::multiple;
@@ -48,7 +50,43 @@ fn add_row<S: TermStore>(s: &mut S, factor: &Term, q: Slot, sum: Slot) -> Result
     outcome
 }
 
-/// The rows of a product whose degrees fit, added one by one.
+/// The next rows of a product, added to the sum so far, which is given up: one, or more that meet no limit.
+fn add_rows<S: TermStore>(
+    s: &mut S,
+    a: Poly,
+    from: usize,
+    rows: usize,
+    b: Poly,
+    sum: Slot,
+) -> Result<Slot, Limit>
+    requires a { IsPoly (S.state s.old) a }
+    requires b { IsPoly (S.state s.old) b }
+    requires live { IsLive (S.state s.old).lists sum.0 }
+    requires some { 0 < rows }
+    requires within { from + rows ≤ length (list_at (S.state s.old).lists (slot_of a)) }
+    requires descending { IsDescending MOST_VARIABLES (polynomial_of (list_at (S.state s.old).lists
+        sum.0)) }
+    requires bounded { IsTrue (are_bounded (polynomial_of (list_at (S.state s.old).lists sum.0))) }
+    requires short { length (list_at (S.state s.old).lists sum.0) ≤ MOST_TERMS }
+    requires terms { 1 < rows → length (list_at (S.state s.old).lists sum.0)
+        + rows * length (list_at (S.state s.old).lists (slot_of b)) ≤ MOST_TERMS }
+    requires sizes { 1 < rows → sizes_of (polynomial_of (list_at (S.state s.old).lists sum.0))
+        + sizes_of (part_of (list_at (S.state s.old).lists (slot_of a)) from rows)
+        * sizes_of (polynomial_at (S.state s.old) b) ≤ MOST_SIZE }
+    requires room { 8 * MOST_TERMS ≤ (S.state s.old).spare }
+    ensures { Outcome (given_up (S.state s.old) sum.0) (S.state s.new) result (bounded_rows
+        (part_of (list_at (S.state s.old).lists (slot_of a)) from rows)
+        (polynomial_at (S.state s.old) b)
+        (polynomial_of (list_at (S.state s.old).lists sum.0))) }
+{
+    if rows == 1 {
+        let factor = s.get(a.slot, from);
+        return add_row(s, &factor, b.slot, sum);
+    }
+    Ok(add_group(s, a, from, rows, b, sum))
+}
+
+/// The rows of a product whose degrees fit, added in turn: one by one, or together where they meet no limit.
 fn rows_in_turn<S: TermStore>(s: &mut S, a: Poly, b: Poly) -> Result<Poly, Limit>
     requires a { IsPoly (S.state s.old) a }
     requires b { IsPoly (S.state s.old) b }
@@ -60,12 +98,14 @@ fn rows_in_turn<S: TermStore>(s: &mut S, a: Poly, b: Poly) -> Result<Poly, Limit
 {
     let count = s.len(a.slot);
     let mut sum = s.fresh();
-    for i in 0..count {
-        let term = s.get(a.slot, i);
-        match add_row(s, &term, b.slot, sum) {
+    let mut i = 0;
+    while i < count {
+        let rows = next_rows(s, a.slot, i, b.slot, sum);
+        match add_rows(s, a, i, rows, b, sum) {
             Ok(next) => sum = next,
             Err(limit) => return Err(limit),
         }
+        i += rows;
     }
     Ok(Poly { slot: sum })
 }

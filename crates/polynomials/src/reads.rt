@@ -1,5 +1,5 @@
 // What is read off a polynomial.
-ghost use Rattle.std.specs.Prelude.{◌≡◌, ◌<◌, ◌≤◌, drop};
+ghost use Rattle.std.specs.Prelude.{◌≡◌, ◌<◌, ◌≤◌, ◌%◌, drop};
 ghost use Rattle.poly_model.specs.Reduction.{same, monomial_class, class_of, degree_at};
 ghost use Rattle.poly_model.specs.declared.limits.TheConstants.{MOST_VARIABLES};
 ghost use Rattle.polynomials.specs.Held.{IsPoly, polynomial_at, class_number};
@@ -27,8 +27,9 @@ pub fn same<S: TermStore>(s: &S, a: Poly, b: Poly) -> bool
 }
 
 /// The end of the eight places that have the greatest variable of a monomial; 0 where it has none.
-fn end_of_used(exps: &[u8; MOST_VARIABLES]) -> usize
+pub fn end_of_used(exps: &[u8; MOST_VARIABLES]) -> usize
     ensures within { result ≤ MOST_VARIABLES }
+    ensures whole { result % 8 ≡ 0 }
     ensures unused { monomial_class (drop result exps.now) ≡ 0 }
 {
     let mut end = MOST_VARIABLES;

@@ -1,4 +1,4 @@
-ghost use Rattle.std.specs.Prelude.{◌≡◌, ◌≢◌, ◌≤◌, ◌<◌, ◌+◌, ◌++◌, ◌∷◌, [], drop, IsTrue, IfSome, SomeIff, ◌^◌, IfNone, IfOk, IfErr, OnSome, length, get_or, Ok, Err, Some, false, unsigned_abs, ◌+ℤ◌, ◌*ℤ◌};
+ghost use Rattle.std.specs.Prelude.{◌≡◌, ◌≢◌, ◌≤◌, ◌<◌, ◌+◌, ◌%◌, ◌++◌, ◌∷◌, [], drop, IsTrue, IfSome, SomeIff, ◌^◌, IfNone, IfOk, IfErr, OnSome, length, get_or, Ok, Err, Some, false, unsigned_abs, ◌+ℤ◌, ◌*ℤ◌};
 ghost use Rattle.polynomials.specs.Summed.{summed};
 ghost use Rattle.poly_model.specs.Polynomial.{IsDescending, poly_sum, monomial_cmp};
 ghost use Rattle.poly_model.specs.Standard.{polynomial_of, are_low};
@@ -10,9 +10,12 @@ ghost use Rattle.term_store.specs.Changes.{Makes, Keeps, Extends};
 ghost use Rattle.poly_model.specs.Standard.{are_bounded};
 ghost use Rattle.poly_model.specs.Bounded.{multiple, bounded_row};
 ghost use Rattle.poly_model.proofs.Within.{all_low};
+ghost use Rattle.poly_model.specs.Reduction.{class_of};
 
+use crate::exponents::compare_below;
+use crate::reads::end_of_used;
 use edge_num::{add_in, mul_in};
-use poly_model::{MOST_VARIABLES, Term, compare_monomials, exponents_sum};
+use poly_model::{MOST_VARIABLES, Term, exponents_sum};
 use std::cmp::Ordering;
 use term_store::{Slot, TermStore};
 
@@ -116,18 +119,54 @@ fn push_sum<S: TermStore>(s: &mut S, out: Slot, x: &Term, y: &Term) -> bool
     true
 }
 
-/// How the monomials at a place of each of two lists compare, where they stand.
+/// A place from which on no term of a list has a variable.
+fn end_of<S: TermStore>(s: &S, a: Slot) -> usize
+    requires live { IsLive (S.state s.now).lists a.0 }
+    requires descending { IsDescending MOST_VARIABLES (polynomial_of (list_at (S.state s.now).lists
+        a.0)) }
+    ensures within { result ≤ MOST_VARIABLES }
+    ensures whole { result % 8 ≡ 0 }
+    ensures used { class_of (polynomial_of (list_at (S.state s.now).lists a.0)) ≤ result }
+{
+    if s.len(a) == 0 {
+        return 0;
+    }
+    end_of_used(&s.get(a, 0).exps)
+}
+
+/// A place from which on no term of two lists has a variable.
+fn end_of_both<S: TermStore>(s: &S, a: Slot, b: Slot) -> usize
+    requires live_a { IsLive (S.state s.now).lists a.0 }
+    requires live_b { IsLive (S.state s.now).lists b.0 }
+    requires descending_a { IsDescending MOST_VARIABLES (polynomial_of (list_at (S.state
+        s.now).lists a.0)) }
+    requires descending_b { IsDescending MOST_VARIABLES (polynomial_of (list_at (S.state
+        s.now).lists b.0)) }
+    ensures within { result ≤ MOST_VARIABLES }
+    ensures whole { result % 8 ≡ 0 }
+    ensures first { class_of (polynomial_of (list_at (S.state s.now).lists a.0)) ≤ result }
+    ensures second { class_of (polynomial_of (list_at (S.state s.now).lists b.0)) ≤ result }
+{
+    let (first, second) = (end_of(s, a), end_of(s, b));
+    if first < second { second } else { first }
+}
+
+/// How the monomials at a place of each of two lists compare, where they stand. No term has a variable from the place `end` on.
 #[inline(always)]
-fn compare_at<S: TermStore>(s: &S, a: Slot, i: usize, b: Slot, j: usize) -> Ordering
+fn compare_at<S: TermStore>(s: &S, a: Slot, i: usize, b: Slot, j: usize, end: usize) -> Ordering
     requires live_a { IsLive (S.state s.now).lists a.0 }
     requires live_b { IsLive (S.state s.now).lists b.0 }
     requires below_a { i < length (list_at (S.state s.now).lists a.0) }
     requires below_b { j < length (list_at (S.state s.now).lists b.0) }
+    requires within { end ≤ MOST_VARIABLES }
+    requires whole { end % 8 ≡ 0 }
+    requires used_a { class_of (polynomial_of (list_at (S.state s.now).lists a.0)) ≤ end }
+    requires used_b { class_of (polynomial_of (list_at (S.state s.now).lists b.0)) ≤ end }
     ensures { (x y : Term) → x ≡ get_or (list_at (S.state s.now).lists a.0) i x
         → y ≡ get_or (list_at (S.state s.now).lists b.0) j y → result
         ≡ monomial_cmp x.exps y.exps }
 {
-    compare_monomials(&s.terms(a)[i].exps, &s.terms(b)[j].exps)
+    compare_below(&s.terms(a)[i].exps, &s.terms(b)[j].exps, end)
 }
 
 /// The sum of two lists, in a new list; None exactly where a coefficient passes its size.
@@ -153,10 +192,11 @@ pub fn merge<S: TermStore>(s: &mut S, a: Slot, b: Slot) -> Option<Slot>
     ensures kept { IfNone result (Keeps (S.state s.old) (S.state s.new)) }
 {
     let (end_a, end_b) = (s.len(a), s.len(b));
+    let end = end_of_both(s, a, b);
     let out = s.fresh();
     let (mut i, mut j) = (0, 0);
     while i < end_a && j < end_b {
-        match compare_at(s, a, i, b, j) {
+        match compare_at(s, a, i, b, j, end) {
             Ordering::Greater => {
                 let x = s.get(a, i);
                 s.push(out, x);

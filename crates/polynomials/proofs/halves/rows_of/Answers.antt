@@ -21,15 +21,15 @@ returns-then-count-eq0-clause-value g c =
     let none : polynomial_at s c.args.a ≡ [] = halving.none-of (list_at s.lists (slot_of c.args.a)) (omega arith) in
     ap polynomial_of m.1 ∙ sym (ap (λ p. poly_product p (polynomial_at s c.args.b)) none)
 
-pub halves-requires-clause-sizes : goal.halves-requires-clause-sizes
-halves-requires-clause-sizes g c =
+pub by_halves-requires-clause-sizes : goal.by_halves-requires-clause-sizes
+by_halves-requires-clause-sizes g c =
     let s = g.S.TermStore.state c.args.s.now in
     let xs = list_at s.lists (slot_of c.args.a) in
     let all = halving.part-whole xs c.len-count.result c.len-count.ensures in
     subst (λ p. sizes_of p * sizes_of (polynomial_at s c.args.b) ≤ MOST_SIZE) (sym all) c.requires.sizes
 
-pub halves-requires-clause-room : goal.halves-requires-clause-room
-halves-requires-clause-room g c =
+pub by_halves-requires-clause-room : goal.by_halves-requires-clause-room
+by_halves-requires-clause-room g c =
     let s = g.S.TermStore.state c.args.s.now in
     let xs = list_at s.lists (slot_of c.args.a) in
     let same : length (polynomial_of xs) ≡ c.len-count.result = steps.polynomial-length xs ∙ sym c.len-count.ensures in
@@ -41,4 +41,4 @@ pub returns-clause-value : goal.returns-clause-value
 returns-clause-value g c =
     let s = g.S.TermStore.state c.args.s.now in
     let xs = list_at s.lists (slot_of c.args.a) in
-    c.halves.ensures.value ∙ ap (λ p. poly_product p (polynomial_at s c.args.b)) (halving.part-whole xs c.len-count.result c.len-count.ensures)
+    c.by_halves.ensures.value ∙ ap (λ p. poly_product p (polynomial_at s c.args.b)) (halving.part-whole xs c.len-count.result c.len-count.ensures)

@@ -1,7 +1,8 @@
-use Rattle.std.proofs.Common.{◌≡◌, ◌++◌, ◌∷◌, [], drop, get_or, length, length-append, sym, ◌∙◌, ap, subst, arith, refl, inl, inr}
+use Rattle.std.proofs.Common.{◌≡◌, ◌≤◌, ◌++◌, ◌∷◌, [], drop, get_or, length, length-append, sym, ◌∙◌, ap, subst, arith, refl, inl, inr}
 use Rattle.std.specs.Prelude.{◌⊎◌}
 use Rattle.poly_model.specs.Standard.{polynomial_of}
 use Rattle.poly_model.specs.Standard.{are_bounded}
+use Rattle.poly_model.specs.Reduction.{class_of}
 use Rattle.term_store.specs.States.{State, IsLive, list_at}
 use Rattle.term_store.specs.Changes.{Makes}
 use Rattle.polynomials.proofs.rows.merge.Goals.{then-loop-i-test+else-j-end_b, else-loop-i-test}
@@ -22,6 +23,14 @@ loop-i-init g c =
       second = omega arith;
       merging = merging.start _ _ c.requires.descending_a c.requires.descending_b c.requires.bounded_a c.requires.bounded_b _ m.1;
     }
+
+pub compare_at-requires-clause-used_a : goal.compare_at-requires-clause-used_a
+compare_at-requires-clause-used_a g c =
+    subst (λ l. class_of (polynomial_of l) ≤ c.end_of_both-end.result) (sym (making.makes-other _ _ _ _ c.loop-i.invariant.made c.requires.live_a)) c.end_of_both-end.ensures.first
+
+pub compare_at-requires-clause-used_b : goal.compare_at-requires-clause-used_b
+compare_at-requires-clause-used_b g c =
+    subst (λ l. class_of (polynomial_of l) ≤ c.end_of_both-end.result) (sym (making.makes-other _ _ _ _ c.loop-i.invariant.made c.requires.live_b)) c.end_of_both-end.ensures.second
 
 pub get-x-requires-clause-live : goal.get-x-requires-clause-live
 get-x-requires-clause-live g c = making.makes-other-live _ _ _ _ c.loop-i.invariant.made c.requires.live_a

@@ -1,4 +1,0 @@
-use Rattle.polynomials.proofs.halves.+halves.Given as goal
-
-abbrev pub decreases-halves : goal.decreases-halves
-decreases-halves g l = l.count
