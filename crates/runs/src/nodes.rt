@@ -78,10 +78,8 @@ fn is_left(alloc: Global, node: &Node, why: Reason, at: Attempt) -> Result<bool>
     let (piece, children) = expanded(alloc, node)?;
     let is_open = match &piece.outcome {
         Outcome::Open { reason, what } => *reason == why && *what == at,
-        Outcome::Split { .. }
-        | Outcome::Close(_)
-        | Outcome::Clash(_, _)
-        | Outcome::System { .. } => false,
+        Outcome::Split { .. } | Outcome::Close(_) | Outcome::Clash(_, _) | Outcome::System { .. } =>
+            false,
     };
     Ok(is_open && piece.steps.as_slice().is_empty() && children.is_none())
 }
