@@ -1,5 +1,5 @@
 // Rows of the work on one node, and of the room in which it is done. The sizes, and what the fuel is parted in, are worked by hand.
-ghost use Rattle.std.specs.Prelude.{◌≡◌, ◌≤◌, ◌+◌, ◌×◌, IfOk, length};
+ghost use Rattle.std.specs.Prelude.{◌≡◌, ◌≤◌, ◌+◌, IfOk, length};
 ghost use Rattle.poly_model.specs.declared.limits.TheConstants.{MOST_FUEL};
 ghost use Rattle.proof_steps.specs.Rules.{size_of};
 
