@@ -97,33 +97,41 @@ def second(checker, path):
     return done.returncode, done.stdout
 
 
+def forged(count, chance):
+    """So many forged logs: the log that each was made from, the kind of change, what it is, and the text."""
+    logs = sorted([*(TOP / "examples").glob("*.log"), *(TOP / "crates/runs/data/logs").glob("*.log")])
+    texts = {log: log.read_text(encoding="latin-1") for log in logs}
+    while count > 0:
+        log, change = chance.choice(logs), chance.choice(CHANGES)
+        text, what = change(texts[log].split("\n")[:-1], chance)
+        if text != texts[log]:
+            count -= 1
+            yield log, change.__name__, what, text
+
+
 def main():
     count = int(sys.argv[1]) if len(sys.argv) > 1 else 1000
     chance = random.Random(int(sys.argv[2]) if len(sys.argv) > 2 else 1)
     checker = sys.argv[3:]
-    logs = sorted([*(TOP / "examples").glob("*.log"), *(TOP / "crates/runs/data/logs").glob("*.log")])
-    answers, faults = collections.Counter(), 0
+    answers, faults, usual = collections.Counter(), 0, {}
     with tempfile.TemporaryDirectory() as folder:
         path = pathlib.Path(folder) / "forged.log"
-        usual = {log: run(log)[2] for log in logs}
-        while sum(answers.values()) < count:
-            log, change = chance.choice(logs), chance.choice(CHANGES)
-            true = log.read_text(encoding="latin-1")
-            text, what = change(true.splitlines(), chance)
-            if text == true:
-                continue
+        for log, change, what, text in forged(count, chance):
+            if log not in usual:
+                usual[log] = run(log)[2]
             path.write_text(text, encoding="latin-1")
             status, wrote, memory = run(path)
             word = wrote.split(b": ")[-1].split(b"\n")[0].decode("latin-1") if status == 2 else ""
-            if checker and second(checker, path) != (status, wrote):
-                faults += 1
-                print(f"fault: {log.name}, {what}: {wrote}, and another answer of the second checker")
-            answers[f"{change.__name__}: {status} {word}".strip()] += 1
+            answers[f"{change}: {status} {word}".strip()] += 1
+            told = f"{log.name}, {what}: status {status}, {memory} kB, {wrote}"
             if status not in (0, 2) or memory > usual[log] * 1.1 + 1000:
                 faults += 1
-                print(f"fault: {log.name}, {what}: status {status}, {memory} kB")
+                print(f"fault: {told}")
+            elif checker and second(checker, path) != (status, wrote):
+                faults += 1
+                print(f"fault: another answer of the second checker: {told}")
             elif status == 0:
-                print(f"assured: {log.name}, {what}")
+                print(f"assured: {told}")
     for answer, number in sorted(answers.items()):
         print(f"{number:6} {answer}")
     print(f"{sum(answers.values())} forged logs, {faults} faults")

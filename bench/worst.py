@@ -1,14 +1,15 @@
 #!/usr/bin/env python3
 """What a stranger's log or file costs at most: makes the dearest that were found, and measures the program over them.
 
-Logs. `steep`: one node whose equations are reduced step by step, each step by the product of a polynomial of 1,849 terms with one of
-nine, of which nine terms are left: nothing was found that takes more work for each unit of fuel. `long`: as many hypotheses as
-there may be, each as long as may be, listed once more at an open leaf. `line`: one line without an end.
-Files. `dashes`: dashed segments across a picture that is as wide as may be. `circles` and `lines`: random figures of as many
-points as a proof may have, of which the dearest is taken.
+Logs. `steep`: one node whose equations are reduced a degree at a time, each step by the product of a polynomial of 1,980 terms with
+one of two, of which two terms are left. Its coefficients are so large that each row of the product is judged by itself: nothing was
+found that takes more work for each unit of fuel. `long`: as many hypotheses as there may be, each as long as may be, listed
+once more at an open leaf. `line`: one line without an end.
+Files. `dashes`: dashed segments across a picture that is as wide as may be. `circles`, `lines` and `ratios`: random figures of about
+as many points as a proof may have, of which the dearest of so many is taken.
 
-usage: bench/worst.py [PROGRAM]           a table of all
-       bench/worst.py make KIND SIZE      such a log or file, to standard output"""
+usage: bench/worst.py [PROGRAM [SECONDS]]   a table of all; a run that takes more seconds (600) is ended, and told as `more`
+       bench/worst.py make KIND SIZE        such a log or file, to standard output"""
 import os
 import pathlib
 import random
@@ -22,42 +23,44 @@ MOST_LOG = 268_435_456
 SEARCHED = 60
 
 
-def box(side, behind=""):
-    """The sum of all products of powers of u1 and u2 below `side`, times what stands behind, as a text."""
-    terms = []
-    for i in reversed(range(side)):
-        for j in reversed(range(side)):
-            factors = [name + (f"^{power}" if power > 1 else "") for name, power in (("u1", j), ("u2", i)) if power]
-            terms.append("*".join(factors + behind.split()) or "1")
-    return " + ".join(terms)
+def term(coefficient, factors):
+    """A term with the factors of these names and powers."""
+    names = [name + (f"^{power}" if power > 1 else "") for name, power in factors if power]
+    return "*".join(([str(coefficient)] if coefficient > 1 or not names else []) + names)
 
 
-def powers(step, last):
-    """x1 to a power, and the variables behind it to the greatest, for the step of this number: none before `step`."""
-    at, power = step // 63, 62 - step % 63
-    names = [] if power == 0 else [f"x{at + 1}" + (f"^{power}" if power > 1 else "")]
-    return " ".join(names + [f"x{k + 1}^63" for k in range(at + 1, last)])
+def box(width, height, behind):
+    """The products of the powers of u1 below `width` and those of u2 below `height`, times what stands behind; the first is large."""
+    places = [(i, j) for i in reversed(range(height)) for j in reversed(range(width))]
+    return " + ".join(term(2**63 if k == 0 else 1, [("u1", j), ("u2", i), *behind]) for k, (i, j) in enumerate(places))
+
+
+def pair(behind):
+    """Two terms, the first large, times what stands behind."""
+    return f"{term(2**64 - 1, [('u1', 1), *behind])} + {term(1, behind)}"
 
 
 def steep(size):
     """A log of about so many bytes, and at most as long as its fuel lasts."""
-    side, few, last = (43, 3, 11) if size > 500_000 else (43, 1, 2)
-    known, hyps = box(side), [f"{box(side, f'x{k + 1}')} + 1" for k in range(last)]
-    start = box(few, " ".join(f"x{k + 1}^63" for k in range(last)))
-    hyps += [start] * (48 - last)
-    names = " ".join(["u1", "u2"] + [f"x{k + 1}" for k in range(last)])
-    lines = ["gclc-proof 1", "proves 1", "prove 1", f"vars {names}", *(f"hyp {h}" for h in hyps), "con u1"]
-    lines += ["node .", f"split 1 {known}", "node .+"]
-    sizes = 4 + last * (side * side + 2) + (48 - last) * (few * few + 1)
-    left = (FUEL - 1 - side * side) * 7 // 8 - sizes - side * side - 1
+    last = 1 if size < 200_000 else 4 if size < 2_000_000 else 24
+    width, height = (44, 45) if size >= 100_000 else (max(2, int((size / 60) ** 0.5)),) * 2
+    known = box(width, height, [])
+    hyps = [f"{box(width, height, [(f'x{k}', 1)])} + 1" for k in range(1, last + 1)]
+    hyps += [pair([(f"x{k}", 63) for k in range(1, last + 1)])] * (48 - last)
+    lines = ["gclc-proof 1", "proves 1", "prove 1", " ".join(["vars", "u1", "u2"] + [f"x{k}" for k in range(1, last + 1)])]
+    lines += [f"hyp {h}" for h in hyps] + ["con u1", "node .", f"split 1 {known}", "node .+"]
+    count = width * height
+    left = (FUEL - 1 - count) * 7 // 8 - (4 + last * (count + 2) + (48 - last) * 3 + count + 1)
     length = sum(len(line) + 1 for line in lines)
     for g in range(last, 48):
-        for step in range(63 * last):
-            left -= few * few + 1
-            if left < 0 or length > size:
-                return "\n".join(lines) + "\n"
-            lines.append(f"red {g + 1} {step // 63 + 1} -1 {box(few, powers(step, last))}")
-            length += len(lines[-1]) + 1
+        for k in range(1, last + 1):
+            for power in reversed(range(63)):
+                left -= 3
+                if left < 0 or length > size:
+                    return "\n".join(lines) + "\n"
+                rest = pair([(f"x{k}", power), *((f"x{n}", 63) for n in range(k + 1, last + 1))])
+                lines.append(f"red {g + 1} {k} -1 {rest}")
+                length += len(lines[-1]) + 1
     return "\n".join(lines) + "\n"
 
 
@@ -114,7 +117,10 @@ def figure(seed, kinds):
             text.append(f"foot P{n} {a} {chance.choice(lines)}")
             points.append(f"P{n}")
         elif kind == "point":
-            text.append(f"{chance.choice(['midpoint'])} P{n} {a} {b}")
+            text.append(f"midpoint P{n} {a} {b}")
+            points.append(f"P{n}")
+        elif kind == "part":
+            text.append(f"towards P{n} {a} {b} 0.{chance.randint(100_000, 999_999)}")
             points.append(f"P{n}")
     a, b, c = points[-1], points[-2], chance.choice(points[:-2])
     return "\n".join([*text, f"prove {{ {chance.choice(['collinear', 'perpendicular A', 'parallel A'])} {a} {b} {c} }}", ""])
@@ -130,19 +136,35 @@ def lines(seed):
     return figure(seed, ["line", "perp", "cut", "foot", "point"])
 
 
-def measure(program, words):
-    """The status, the seconds of processor time and the most resident MiB of a run, and the bytes that it wrote."""
+def ratios(seed):
+    """Points at ratios of six digits, whose equations have large numbers."""
+    return figure(seed, ["line", "perp", "cut", "part", "part", "circle", "cut2"])
+
+
+def measure(program, words, limit):
+    """The status (None past the limit), the seconds of processor time and the most resident MiB of a run, and the bytes that it wrote."""
     with tempfile.TemporaryFile() as wrote:
-        child = subprocess.Popen([program, *words], stdout=wrote, stderr=wrote)
+        child = subprocess.Popen(["timeout", "--signal=KILL", str(limit), program, *words], stdout=wrote, stderr=wrote)
         _, state, use = os.wait4(child.pid, 0)
         child.returncode = os.waitstatus_to_exitcode(state)
-        return child.returncode, use.ru_utime + use.ru_stime, use.ru_maxrss / 1024, os.fstat(wrote.fileno()).st_size
+        status = child.returncode if child.returncode >= 0 else None
+        return status, use.ru_utime + use.ru_stime, use.ru_maxrss / 1024, os.fstat(wrote.fileno()).st_size
 
 
-def row(program, name, words, path):
-    status, seconds, memory, wrote = measure(program, words)
-    print(f"| {name} | {os.path.getsize(path):,} | {status} | {wrote:,} | {seconds:.2f} | {memory:.0f} |", flush=True)
-    return seconds
+def row(program, name, words, path, limit):
+    """Measures a run, and tells it as a row of the table."""
+    status, seconds, memory, wrote = measure(program, words, limit)
+    told = "more" if status is None else f"{seconds:.2f}"
+    print(f"| {name} | {os.path.getsize(path):,} | {status} | {wrote:,} | {told} | {memory:.0f} |", flush=True)
+
+
+def dearest(program, maker, path, limit):
+    """The seed of the figure whose proofs take the most time."""
+    seconds = {}
+    for seed in range(SEARCHED):
+        path.write_text(maker(seed))
+        seconds[seed] = measure(program, ["prove", path], limit)[1]
+    return max(seconds, key=seconds.get)
 
 
 def main():
@@ -150,28 +172,29 @@ def main():
         sys.stdout.write(MAKERS[sys.argv[2]](int(sys.argv[3])))
         return
     program = pathlib.Path(sys.argv[1]) if len(sys.argv) > 1 else PROGRAM
+    limit = int(sys.argv[2]) if len(sys.argv) > 2 else 600
     print("| log or file | bytes | status | bytes written | seconds | MiB |\n|---|---|---|---|---|---|")
     with tempfile.TemporaryDirectory() as folder:
         path = pathlib.Path(folder) / "f"
-        for maker, sizes in ((steep, [200_000, 1_000_000, 4_000_000, 30_000_000]), (long, [1_000_000, 10_000_000, 68_000_000]),
-                             (line, [1_000_000, 10_000_000, 100_000_000, MOST_LOG, MOST_LOG + 1])):
+        for maker, sizes in LOGS:
             for size in sizes:
                 path.write_text(maker(size))
-                row(program, f"check, {maker.__name__}", ["check", path], path)
+                row(program, f"check, {maker.__name__}", ["check", path], path, limit)
         for form in ("svg", "latex", "show"):
             for size in (10_000, 100_000, 1_000_000):
                 path.write_text(dashes(size))
-                row(program, f"{form}, dashes", [form, path], path)
-        for maker in (circles, lines):
-            seconds = {}
-            for seed in range(SEARCHED):
-                path.write_text(maker(seed))
-                seconds[seed] = measure(program, ["prove", path])[1]
-            worst = max(seconds, key=seconds.get)
-            path.write_text(maker(worst))
-            row(program, f"prove, {maker.__name__} {worst}", ["prove", path], path)
+                row(program, f"{form}, dashes", [form, path], path, limit)
+        for maker in (circles, lines, ratios):
+            seed = dearest(program, maker, path, limit)
+            path.write_text(maker(seed))
+            row(program, f"prove, {maker.__name__} {seed}", ["prove", path], path, limit)
 
 
-MAKERS = {made.__name__: made for made in (steep, long, line, dashes, circles, lines)}
+LOGS = [
+    (steep, [10_000, 30_000, 100_000, 1_000_000, 20_000_000]),
+    (long, [1_000_000, 10_000_000, 68_000_000]),
+    (line, [1_000_000, 10_000_000, 100_000_000, MOST_LOG, MOST_LOG + 1]),
+]
+MAKERS = {made.__name__: made for made in (steep, long, line, dashes, circles, lines, ratios)}
 if __name__ == "__main__":
     main()

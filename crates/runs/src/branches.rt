@@ -4,9 +4,9 @@ use branch_core::{Book, Gone, Idle, PathState};
 use proof_steps::Path;
 use std::alloc::Global;
 
-// What a book answers to a worker who asks for the empty path; where it is given, it is given back at once.
-fn refusal_to(book: &mut Book<u32>, worker: u32) -> Option<Gone> {
-    match book.take(worker, Path::root()) {
+// What a book answers to a worker who asks for a path; where it is given, it is given back at once.
+fn refusal_to(book: &mut Book<u32>, worker: u32, path: Path) -> Option<Gone> {
+    match book.take(worker, path) {
         Ok(ticket) => {
             let _refused = book.refuse(ticket);
             None
@@ -15,22 +15,33 @@ fn refusal_to(book: &mut Book<u32>, worker: u32) -> Option<Gone> {
     }
 }
 
-// A path that is held is not given again, not to its holder either, who then ends it.
+// A book that refuses a path where it has it so, and is not stopped.
+fn not_given(state: PathState) -> Option<Gone> {
+    Some(Gone {
+        state,
+        stopped: false,
+    })
+}
+
+// A path that is held is not given again, not to its holder either, who then ends it; nor is one that is done, or that is in no book.
 fn check_held(alloc: Global) -> Result<()> {
     let mut book = Book::new(alloc)?;
     let Ok(ticket) = book.take(0, Path::root()) else {
         bail!("the empty path of a new book is not given");
     };
-    let refused = refusal_to(&mut book, 0);
+    let held = refusal_to(&mut book, 0, Path::root());
     let idle = book.idle();
     let ended = book.leaf(ticket, 7);
-    let holds = Gone {
-        state: PathState::Held(0),
-        stopped: false,
-    };
-    if refused != Some(holds) || idle != Idle::Wait || ended != Ok(()) || book.idle() != Idle::Done
-    {
+    if held != not_given(PathState::Held(0)) || idle != Idle::Wait || ended != Ok(()) {
         bail!("a path that is held: another answer");
+    }
+    let done = refusal_to(&mut book, 1, Path::root());
+    let absent = refusal_to(&mut book, 1, Path::root().child(true));
+    if done != not_given(PathState::Done)
+        || absent != not_given(PathState::Absent)
+        || book.idle() != Idle::Done
+    {
+        bail!("a path that is done, or in no book: another answer");
     }
     Ok(())
 }
@@ -38,12 +49,15 @@ fn check_held(alloc: Global) -> Result<()> {
 // A book in which a path was refused is stopped: the path waits, and is given to no one.
 fn check_stopped(alloc: Global) -> Result<()> {
     let mut book = Book::new(alloc)?;
-    let first = refusal_to(&mut book, 3);
+    let first = refusal_to(&mut book, 3, Path::root());
     let waits = Gone {
         state: PathState::Waiting,
         stopped: true,
     };
-    if first.is_some() || book.idle() != Idle::Stopped || refusal_to(&mut book, 4) != Some(waits) {
+    if first.is_some()
+        || book.idle() != Idle::Stopped
+        || refusal_to(&mut book, 4, Path::root()) != Some(waits)
+    {
         bail!("a book that is stopped: another answer");
     }
     Ok(())

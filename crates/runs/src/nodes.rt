@@ -1,5 +1,5 @@
 // Rows of the work on one node, and of the room in which it is done. The sizes, and what the fuel is parted in, are worked by hand.
-ghost use Rattle.std.specs.Prelude.{◌≡◌, ◌≤◌, ◌+◌, ◌×◌, IfOk, length};
+ghost use Rattle.std.specs.Prelude.{◌≡◌, ◌≤◌, ◌+◌, IfOk, length};
 ghost use Rattle.poly_model.specs.declared.limits.TheConstants.{MOST_FUEL};
 ghost use Rattle.proof_steps.specs.Rules.{size_of};
 
@@ -78,10 +78,8 @@ fn is_left(alloc: Global, node: &Node, why: Reason, at: Attempt) -> Result<bool>
     let (piece, children) = expanded(alloc, node)?;
     let is_open = match &piece.outcome {
         Outcome::Open { reason, what } => *reason == why && *what == at,
-        Outcome::Split { .. }
-        | Outcome::Close(_)
-        | Outcome::Clash(_, _)
-        | Outcome::System { .. } => false,
+        Outcome::Split { .. } | Outcome::Close(_) | Outcome::Clash(_, _) | Outcome::System { .. } =>
+            false,
     };
     Ok(is_open && piece.steps.as_slice().is_empty() && children.is_none())
 }
