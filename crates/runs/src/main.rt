@@ -21,14 +21,15 @@ mod table;
 use anyhow::{Result, bail};
 use dense::{Block, polynomial};
 use operation::{Operation, answer, division};
-use poly_model::OwnedPoly;
+use poly_model::{EXPAND_UNITS, OwnedPoly};
 use std::alloc::Global;
 use std::rt::Files;
 use std::sync::Wait;
 use std::thread::Threads;
 use std::{env, fs};
 use table::Table;
-use term_store::VecStore;
+use term_region::TermRegion;
+use term_store::{TermStore, VecStore};
 
 /// The fuel for one division.
 const FUEL: u32 = 10_000;
@@ -100,9 +101,9 @@ fn operands(alloc: Global, name: &str, width: u8) -> Result<(OwnedPoly, OwnedPol
 }
 
 /// The terms of the result.
-fn terms(
+fn terms<S: TermStore>(
     alloc: Global,
-    s: &mut VecStore,
+    s: &mut S,
     name: &str,
     a: &OwnedPoly,
     b: &OwnedPoly,
@@ -121,22 +122,53 @@ fn terms(
     }
 }
 
-// The terms of the result of an operation that is done so many times.
-fn repeat(alloc: Global, name: &str, width: u8, times: u32) -> Result<usize> {
+// The same over a new store, which grows or is a region.
+fn terms_over(
+    alloc: Global,
+    in_region: bool,
+    name: &str,
+    a: &OwnedPoly,
+    b: &OwnedPoly,
+) -> Result<usize> {
+    if in_region {
+        let mut region = TermRegion::open(alloc, EXPAND_UNITS)?;
+        return terms(alloc, &mut region, name, a, b);
+    }
+    let mut store = VecStore::new(alloc)?;
+    terms(alloc, &mut store, name, a, b)
+}
+
+// The terms of the result of an operation that is done so many times, each time in a new store.
+fn repeat(alloc: Global, in_region: bool, name: &str, width: u8, times: u32) -> Result<usize> {
     let (a, b) = operands(alloc, name, width)?;
     let mut size = 0;
     for _ in 0..times {
-        let mut store = VecStore::new(alloc)?;
-        size = terms(alloc, &mut store, name, &a, &b)?;
+        size = terms_over(alloc, in_region, name, &a, &b)?;
     }
     Ok(size)
+}
+
+// The terms of the result of the operation that the words tell, with the number of times; nothing where they tell none.
+fn repeated(alloc: Global, words: &[String]) -> Result<Option<usize>> {
+    let (in_region, name, width, times) = match words {
+        [name, width, times] => (false, name, width, times),
+        [store, name, width, times] if store.as_str() == "region" => (true, name, width, times),
+        _ => return Ok(None),
+    };
+    let size = repeat(
+        alloc,
+        in_region,
+        name.as_str(),
+        width.parse()?,
+        times.parse()?,
+    )?;
+    Ok(Some(size))
 }
 
 fn main(rt: HostRuntime) -> Result<()> {
     let alloc = rt.alloc();
     let words: Vec<String> = env::args(&rt)?.skip(1).collect(alloc)?;
-    if let [name, width, times] = words.as_slice() {
-        let size = repeat(alloc, name, width.parse()?, times.parse()?)?;
+    if let Some(size) = repeated(alloc, &words)? {
         println!(rt; "{size} terms")?;
         return Ok(());
     }

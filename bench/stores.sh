@@ -1,0 +1,193 @@
+#!/usr/bin/env bash
+# Compares the two stores of terms.
+#   stores.sh products   the instructions of a product over the region and over the store that grows, and how often the region
+#                        moved its lists down in it
+#   stores.sh proofs     the instructions that the proofs of a file take over either, and the time and memory of the smallest file:
+#                        both programs are made of a copy of the repository, in which for the second a worker's room is the
+#                        store that grows; the copy is proved, which takes some minutes
+set -eu
+export LC_ALL=C
+top=$(cd "$(dirname "$0")/.." && pwd)
+command -v valgrind >/dev/null || { echo "stores.sh: valgrind is not here" >&2; exit 1; }
+work=$(mktemp -d)
+trap 'rm -rf "$work"' EXIT
+
+# Runs a program under callgrind, and gives its instructions.
+count() {
+    valgrind --tool=callgrind --callgrind-out-file="$work/callgrind" "$@" >"$work/text" 2>"$work/log"
+    sed -n 's/.*Collected : \([0-9]*\).*/\1/p' "$work/log"
+}
+
+# How often the region moved its lists down in the last counted run.
+moves() {
+    awk '/^c?fn=\(/ { split($0, half, "="); id = half[2]; sub(/ .*/, "", id)
+                      if (index(half[2], " ")) name[id] = half[2]
+                      if ($0 ~ /^cfn=/) called = id }
+         /^calls=/ { if (name[called] ~ /moving.*compact/) { split($1, n, "="); sum += n[2] } }
+         END { print sum + 0 }' "$work/callgrind"
+}
+
+# The instructions of a product of squares of so many monomials in a row, without those of the start of the program.
+product() {
+    local once twice
+    once=$(count "$program" "$@" 1)
+    before=$(moves)
+    twice=$(count "$program" "$@" 2)
+    echo "$((twice - once)) $(($(moves) - before))"
+}
+
+products() {
+    program=$top/crates/runs/out/runs
+    [ -x "$program" ] || (cd "$top/crates/runs" && rt run >/dev/null)
+    printf '| terms of each operand | of the result | moves of the lists | instructions | by pair of terms | over the growing store |\n'
+    printf '|---|---|---|---|---|---|\n'
+    for width in 4 8 16 22 32; do
+        read -r region moved <<<"$(product region mul "$width")"
+        terms=$(sed 's/ terms//' "$work/text")
+        read -r growing _ <<<"$(product mul "$width")"
+        pairs=$((width * width * width * width))
+        printf '| %d | %s | %d | %d | %d | %d |\n' "$((width * width))" "$terms" "$moved" "$region" "$((region / pairs))" \
+            "$((growing / pairs))"
+    done
+}
+
+# A program that proves the statements of a file, and tells how many there are.
+make_program() {
+    mkdir -p "$1/crates/prover/src"
+    cat >"$1/crates/prover/src/main.rt" <<'RT'
+//! Proves the statements of a file.
+#![tactic(auto)]
+
+use anyhow::{Result, bail};
+use gcl_names::resolve;
+use gcl_reader::{MOST_BYTES, read};
+use prove_run::prove_one;
+use std::{env, fs};
+
+fn main(rt: HostRuntime) -> Result<()> {
+    let alloc = rt.alloc();
+    let words: Vec<String> = env::args(&rt)?.skip(1).collect(alloc)?;
+    let [name] = words.as_slice() else {
+        bail!("one file is wanted")
+    };
+    let bytes = fs::read(&rt, name.as_str())?;
+    if bytes.len() > MOST_BYTES {
+        bail!("it is too large")
+    }
+    let Ok(file) = read(alloc, &bytes) else {
+        bail!("it is no file")
+    };
+    let Ok(program) = resolve(alloc, &file) else {
+        bail!("its names are wrong")
+    };
+    let Ok(log) = prove_one(alloc, &program) else {
+        bail!("it has no log")
+    };
+    let count = log.proofs.as_slice().len();
+    println!(rt; "{count} proofs")?;
+    Ok(())
+}
+RT
+    echo 'prover: prove_run gcl_names gcl_reader anyhow' >>"$1/crates.txt"
+}
+
+# In a copy, a worker's room is the store that grows.
+let_grow() {
+    local crate=$1/crates/prove_run
+    cat >"$crate/src/room.rt" <<'RT'
+ghost use Rattle.std.specs.Prelude.{◌≤◌, IfOk};
+ghost use Rattle.poly_model.specs.declared.limits.TheConstants.{EXPAND_UNITS};
+ghost use Rattle.term_store.specs.Holding.{held_by};
+
+use poly_model::EXPAND_UNITS;
+use std::alloc::{AllocError, Global};
+use term_store::{TermStore, VecStore};
+
+/// A store that keeps its room for the work on a node.
+#[derive(Drop)]
+pub struct Room {
+    pub store: VecStore,
+    ghost enough: { EXPAND_UNITS ≤ (held_by store).spare },
+}
+
+impl Room {
+    pub fn new(alloc: Global) -> Result<Room, AllocError> {
+        Ok(Room {
+            store: roomy_store(alloc)?,
+        })
+    }
+}
+
+/// A store with room for the work on a node.
+pub fn roomy_store(alloc: Global) -> Result<VecStore, AllocError>
+    ensures { IfOk result (λ s. EXPAND_UNITS ≤ (held_by s).spare) }
+{
+    let mut store = VecStore::new(alloc)?;
+    match store.reserve(EXPAND_UNITS) {
+        Ok(()) => Ok(store),
+        Err(_) => Err(AllocError),
+    }
+}
+RT
+    sed -i -e 's/TermRegion::open(alloc, EXPAND_UNITS)?/roomy_store(alloc)?/' -e 's/^use term_region::TermRegion;$//' \
+        -e 's/^use crate::growing::grow;$/&\nuse crate::room::roomy_store;/' -e 's/{EXPAND_UNITS, MOST_FUEL, OwnedPoly, Row}/{MOST_FUEL, OwnedPoly, Row}/' \
+        "$crate/src/proving.rt"
+    sed -i 's/Rattle.term_region.specs.Holding/Rattle.term_store.specs.Holding/' "$crate/proofs/proving/prove_all/Invariants.antt"
+}
+
+# A chain of midpoints: each between the one before and a corner.
+make_chain() {
+    printf 'point A 0 0\npoint B 10 0\npoint C 3 7\nmidpoint M1 A B\n'
+    for ((i = 2; i <= $1; i++)); do printf 'midpoint M%d M%d C\n' "$i" "$((i - 1))"; done
+    printf 'prove { collinear M1 M%d C }\n' "$1"
+}
+
+compare() {
+    local region growing moved
+    region=$(count "$work/region" "$2")
+    moved=$(moves)
+    growing=$(count "$work/growing" "$2")
+    printf '| %s | %d | %d | %d | %.3f |\n' "$1" "$moved" "$region" "$growing" "$(echo "$region / $growing" | bc -l)"
+}
+
+# The least time of nine runs, and the most memory of one.
+cost() {
+    local least=99999999 start end kilobytes
+    for _ in 1 2 3 4 5 6 7 8 9; do
+        start=${EPOCHREALTIME/./}
+        "$1" "$2" >/dev/null
+        end=${EPOCHREALTIME/./}
+        least=$((end - start < least ? end - start : least))
+    done
+    kilobytes=$(python3 -c 'import resource, subprocess, sys
+subprocess.run(sys.argv[1:], stdout=subprocess.DEVNULL)
+print(resource.getrusage(resource.RUSAGE_CHILDREN).ru_maxrss)' "$1" "$2")
+    echo "$least microseconds, $kilobytes kB"
+}
+
+proofs() {
+    for store in region growing; do
+        mkdir "$work/$store.copy"
+        (cd "$top" && tar cf - --exclude=out crates crates.txt HANDLES) | tar xf - -C "$work/$store.copy"
+        make_program "$work/$store.copy"
+        [ "$store" = region ] || let_grow "$work/$store.copy"
+        (cd "$work/$store.copy/crates/prover" && rt run -- "$top/examples/thales.gcl" >"$work/built" 2>&1) || { cat "$work/built" >&2; exit 1; }
+        cp "$work/$store.copy/crates/prover/out/prover" "$work/$store"
+        rm -rf "$work/$store.copy"
+    done
+    printf '| figure | moves of the lists | over the region | over the growing store | ratio |\n|---|---|---|---|---|\n'
+    for n in 4 8 16; do
+        make_chain "$n" >"$work/chain"
+        compare "chain of $n midpoints" "$work/chain"
+    done
+    for name in thales midlines varignon centroid orthocentre circumscribed simson tangents napoleon euler; do
+        compare "$name" "$top/examples/$name.gcl"
+    done
+    echo "thales over the region: $(cost "$work/region" "$top/examples/thales.gcl")"
+    echo "thales over the growing store: $(cost "$work/growing" "$top/examples/thales.gcl")"
+}
+
+case ${1:-} in
+products | proofs) "$1" ;;
+*) echo "stores.sh: products or proofs" >&2; exit 1 ;;
+esac
