@@ -1,16 +1,19 @@
 -- Trials: the number that a word tells, and that the file of a number has a log, which is accepted.
-use Rattle.std.proofs.Common.{◌≡◌, ◌<◌, ◌≤◌, ◌⊎◌, inl, inr, ◌^◌, ℕ, List, Option, None, Some, Result, Ok, Err, Bool, true, false, ◌&&◌, nat_lt, refl, sym, ◌∙◌, ap, arith, lit<}
+use Rattle.std.proofs.Common.{◌≡◌, ◌<◌, ◌≤◌, ◌⊎◌, inl, inr, ◌^◌, ◌+◌, ℕ, List, ◌∷◌, Option, None, Some, Result, Ok, Err, Bool, true, false, ◌&&◌, nat_lt, refl, sym, ◌∙◌, ap, arith, lit<}
 use Rattle.std.specs.Prelude.{if◌then◌else◌, decimal}
 use Rattle.std.specs.Str.{bytes_eq}
 use Rattle.std.specs.Str.Parse.{digits_value}
 use Rattle.std.proofs.lemmas.Bool.{and_parts}
 use Rattle.std.proofs.lemmas.Bool.Decides.{nat_tests}
 use Rattle.std.proofs.lemmas.Fmt.{decimal_is_IsNumeral}
+use Rattle.std.proofs.lemmas.List.Sums.{sum_by-cons}
 use Rattle.std.proofs.lemmas.Slice.Eq.{bytes_eq-Decides}
 use Rattle.gcl_reader.specs.Grammar.{◌>>=◌}
 use Rattle.gcl_reader.specs.declared.refusal.Refusal.{Refusal}
 use Rattle.gcl_names.specs.Program.{program_of}
 use Rattle.gcl_names.specs.declared.program.Program.{Program}
+use Rattle.verdicts.specs.declared.verdict.Verdict.{Verdict}
+use Rattle.verdicts.specs.declared.verdict.Verdict.TheVariants as verdict
 use Rattle.proof_log.specs.declared.log.Proof.{Proof}
 use Rattle.log_checker.specs.Answers.{Accepted, Malformed, Rejected}
 use Rattle.log_checker.specs.Checked.{Judged}
@@ -25,7 +28,7 @@ use Rattle.command_line.specs.Contract.{Views, IsRun, IsQuiet, lent}
 use Rattle.command_line.specs.Proving.{log_text}
 use Rattle.command_line.specs.Run.{Ends}
 use Rattle.command_line.specs.Table.{TrialOf, IsAnswer, trial_number}
-use Rattle.command_line.specs.Trials.{trial_of}
+use Rattle.command_line.specs.Trials.{is_other, is_proved, is_under, one_if, trial_of, verdicts_of}
 use Rattle.command_line.specs.declared.numbers.TheConstants.{TRIALS}
 use Rattle.command_line.specs.declared.status.Status.{Status}
 use Rattle.command_line.specs.declared.status.Status.TheVariants.{Done, Usage, ReadFault, WriteFault, OutOfMemory}
@@ -55,6 +58,20 @@ none-told word never =
     by-test n (nat_lt n TRIALS && bytes_eq word (decimal n)) (λ passed.
     let parts = and_parts (nat_lt n TRIALS) (bytes_eq word (decimal n)) passed in
     never n (grind (arith, nat_tests, parts.0)) ((bytes_eq-Decides word (decimal n)).0 parts.1))
+
+-- ---- the verdicts
+-- One proof more.
+pub counts-next : (kind : Verdict → Bool) (proof : Proof) (proofs : List Proof) → verdicts_of kind (proof ∷ proofs) ≡ one_if (kind proof.verdict) + verdicts_of kind proofs
+counts-next kind proof proofs = sum_by-cons (λ (p : Proof). one_if (kind p.verdict)) proof proofs
+
+-- Each verdict is of one kind.
+pub one-kind : (v : Verdict) → one_if (is_proved v) + one_if (is_under v) + one_if (is_other v) ≡ 1
+unfolding is_proved is_under is_other
+one-kind verdict.Proved = refl
+one-kind (verdict.Under cs) = refl
+one-kind (verdict.NotProved path k r) = refl
+one-kind (verdict.Degenerate path) = refl
+one-kind (verdict.Left path reason) = refl
 
 -- ---- the log
 -- No fault is found of the text of a log that is accepted.

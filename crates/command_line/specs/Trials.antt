@@ -1,5 +1,5 @@
 -- The trial of a number: the proof of its file, and how that is told.
-use Rattle.std.specs.Prelude.{ℕ, List, ◌++◌, length, Bool, true, false, Result, Ok, codes, decimal, count_by}
+use Rattle.std.specs.Prelude.{ℕ, List, ◌++◌, length, Bool, true, false, cond, Result, Ok, codes, decimal, count_by}
 use Rattle.gcl_reader.specs.Grammar.{◌>>=◌}
 use Rattle.gcl_reader.specs.declared.refusal.Refusal.{Refusal}
 use Rattle.gcl_names.specs.Program.{program_of}
@@ -33,6 +33,10 @@ is_other (verdict.Under cs) = false
 is_other (verdict.NotProved path k r) = true
 is_other (verdict.Degenerate path) = true
 is_other (verdict.Left path reason) = true
+
+-- What a verdict adds to the number of those of a kind.
+abbrev pub one_if : Bool → ℕ
+one_if is = cond is 1 0
 
 -- How many proofs have a verdict of a kind.
 abbrev pub verdicts_of : (Verdict → Bool) → List Proof → ℕ

@@ -1,5 +1,5 @@
 // What comes of the file of a number: its log, made by a prover and checked, and a summary of that.
-ghost use Rattle.std.specs.Prelude.{◌≡◌, ◌≤◌, ◌⊎◌, ◌++◌, List, ℕ, Option, IfOk, OnOk, All, codes, count_by, decimal, length};
+ghost use Rattle.std.specs.Prelude.{◌≡◌, ◌≤◌, ◌<◌, ◌+◌, ◌^◌, ◌⊎◌, ◌++◌, List, ℕ, Option, IfOk, OnOk, All, codes, decimal};
 ghost use Rattle.desk_io.specs.Causes.{Rose};
 ghost use Rattle.gcl_reader.specs.Grammar.{Gives};
 ghost use Rattle.proof_log.specs.Accepted.{IsAccepted};
@@ -10,7 +10,7 @@ ghost use Rattle.trial_file.specs.Trial.{trial_text};
 ghost use Rattle.command_line.specs.Answer.{answer_from, text_answer};
 ghost use Rattle.command_line.specs.Proving.{log_text};
 ghost use Rattle.command_line.specs.Run.{Ends};
-ghost use Rattle.command_line.specs.Trials.{is_other, is_proved, is_under, summary_text, trial_of, verdicts_of};
+ghost use Rattle.command_line.specs.Trials.{is_other, is_proved, is_under, one_if, summary_text, trial_of, verdicts_of};
 
 use crate::draft::Draft;
 use crate::prover::Prover;
@@ -40,47 +40,55 @@ pub struct Summary {
     pub bytes: usize,
 }
 
-#[tactic(auto, unfolding(crate::specs::Trials::is_proved))]
-fn is_proved(verdict: &Verdict) -> bool
-    ensures { result ≡ is_proved verdict.now }
-{
-    matches!(verdict, Verdict::Proved)
+/// How many verdicts are proved, how many under conditions, and how many are others.
+#[derive(Clone, Copy)]
+struct Tally {
+    proved: usize,
+    under: usize,
+    other: usize,
 }
 
-#[tactic(auto, unfolding(crate::specs::Trials::is_under))]
-fn is_under(verdict: &Verdict) -> bool
-    ensures { result ≡ is_under verdict.now }
+// Counts one more verdict.
+#[tactic(auto, unfolding(crate::specs::Trials::is_proved, crate::specs::Trials::is_under, crate::specs::Trials::is_other))]
+fn counted(tally: Tally, verdict: &Verdict) -> Tally
+    requires { tally.proved + tally.under + tally.other + 1 < 2 ^ 64 }
+    ensures proved { result.proved ≡ tally.proved + one_if (is_proved verdict.now) }
+    ensures under { result.under ≡ tally.under + one_if (is_under verdict.now) }
+    ensures other { result.other ≡ tally.other + one_if (is_other verdict.now) }
 {
-    matches!(verdict, Verdict::Under(_))
+    match verdict {
+        Verdict::Proved => Tally {
+            proved: tally.proved + 1,
+            ..tally
+        },
+        Verdict::Under(_) => Tally {
+            under: tally.under + 1,
+            ..tally
+        },
+        Verdict::NotProved { .. } | Verdict::Degenerate(_) | Verdict::Left { .. } => Tally {
+            other: tally.other + 1,
+            ..tally
+        },
+    }
 }
 
-#[tactic(auto, unfolding(crate::specs::Trials::is_other))]
-fn is_other(verdict: &Verdict) -> bool
-    ensures { result ≡ is_other verdict.now }
+// Counts the verdicts of these proofs.
+fn tally_of(proofs: &[Proof]) -> Tally
+    ensures proved { result.proved ≡ verdicts_of is_proved proofs.now }
+    ensures under { result.under ≡ verdicts_of is_under proofs.now }
+    ensures other { result.other ≡ verdicts_of is_other proofs.now }
 {
-    matches!(
-        verdict,
-        Verdict::NotProved { .. } | Verdict::Degenerate(_) | Verdict::Left { .. }
-    )
-}
-
-// The number of proofs whose verdict is proved; the same, under conditions; the same, of all others.
-fn proved_in(proofs: &[Proof]) -> usize
-    ensures { result ≡ verdicts_of is_proved proofs.now }
-{
-    proofs.iter().filter(|p| is_proved(&p.verdict)).count()
-}
-
-fn under_in(proofs: &[Proof]) -> usize
-    ensures { result ≡ verdicts_of is_under proofs.now }
-{
-    proofs.iter().filter(|p| is_under(&p.verdict)).count()
-}
-
-fn other_in(proofs: &[Proof]) -> usize
-    ensures { result ≡ verdicts_of is_other proofs.now }
-{
-    proofs.iter().filter(|p| is_other(&p.verdict)).count()
+    let mut tally = Tally {
+        proved: 0,
+        under: 0,
+        other: 0,
+    };
+    let mut rest = proofs;
+    while let Some((proof, others)) = rest.split_first() {
+        tally = counted(tally, &proof.verdict);
+        rest = others;
+    }
+    tally
 }
 
 // The text of a log, in memory.
@@ -125,14 +133,14 @@ fn tried<P: Prover, D: Domain>(
     let log = prover.prove(alloc, &program)?;
     let bytes = log_bytes(alloc, &log)?;
     confirm(alloc, domain, &log, &bytes)?;
-    let proofs = log.proofs.as_slice();
+    let tally = tally_of(log.proofs.as_slice());
     Ok(Summary {
         number,
         commands: program.acts.as_slice().len(),
         proves: program.proves,
-        proved: proved_in(proofs),
-        under: under_in(proofs),
-        other: other_in(proofs),
+        proved: tally.proved,
+        under: tally.under,
+        other: tally.other,
         bytes: bytes.len(),
     })
 }

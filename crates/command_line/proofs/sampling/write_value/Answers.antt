@@ -1,5 +1,7 @@
 use Rattle.std.proofs.Common.{◌≡◌, ◌++◌, ◌∙◌, codes, ap, refl, sym}
 use Rattle.std.specs.Fmt.{signed_decimal}
+use Rattle.std.specs.Int.{w128}
+use Rattle.std.proofs.lemmas.Int.{to_z-of_z}
 use Rattle.desk_io.proofs.Writing.{first_failed, last_writes}
 use Rattle.command_line.proofs.sampling.write_value.Goals as goal
 
@@ -9,6 +11,7 @@ returns-in_err-push-clause-bytes g c =
 
 pub returns-clause-bytes : goal.returns-clause-bytes
 returns-clause-bytes g c =
-    let text : c.as_bytes.result.now ≡ signed_decimal c.args.value = c.as_bytes.ensures.value ∙ c.format.ensures.text in
+    let whole = ap signed_decimal (to_z-of_z w128 c.args.value c.ranges.value) in
+    let text : c.as_bytes.result.now ≡ signed_decimal c.args.value = c.as_bytes.ensures.value ∙ c.format.ensures.text ∙ whole in
     last_writes c.push-2.result _ _ _ _ _ _ (codes " ") c.as_bytes.result.now _ c.in_ok-push.ensures.bytes c.push-2.ensures.bytes
     (ap (λ t. codes " " ++ t) (sym text))
