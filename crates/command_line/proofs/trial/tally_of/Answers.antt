@@ -1,4 +1,4 @@
-use Rattle.std.proofs.Common.{◌≡◌, ◌∷◌, ◌∙◌, ap, sym, arith}
+use Rattle.std.proofs.Common.{◌∙◌, ap, arith}
 use Rattle.command_line.specs.Trials.{is_other, is_proved, is_under, verdicts_of}
 use Rattle.command_line.proofs.Trials.{counts-next, one-kind}
 use Rattle.command_line.proofs.trial.tally_of.Goals as goal
