@@ -4,6 +4,7 @@
 #![tactic(auto)]
 
 mod arithmetic;
+mod branches;
 mod case;
 mod dense;
 mod files;
@@ -11,7 +12,10 @@ mod held;
 mod hold;
 mod integers;
 mod memory;
+mod nodes;
 mod operation;
+mod reading;
+mod sweep;
 mod table;
 
 use anyhow::{Result, bail};
@@ -61,6 +65,12 @@ fn check_calls<R: Files + AllocGlobal>(rt: &R) -> Result<()> {
     memory::check_pens(alloc)?;
     files::check_file(rt)?;
     files::check_read_only(rt)?;
+    branches::check_all(alloc)?;
+    reading::check_refusals(alloc)?;
+    reading::check_bytes_of_a_log(alloc, &fs::read(rt, "logs/midline.log")?, 20)?;
+    reading::check_fault_stays(alloc)?;
+    nodes::check_room(alloc)?;
+    nodes::check_nodes(alloc)?;
     let mut store = VecStore::new(alloc)?;
     arithmetic::check_all(alloc, &mut store)
 }
@@ -165,6 +175,8 @@ fn main(rt: HostRuntime) -> Result<()> {
     let runs = run_table(&rt, "runs.txt")?;
     let logs = run_table(&rt, "logs.txt")?;
     println!(rt; "{runs} runs and {logs} over logs as the tables say")?;
+    let devices = run_table(&rt, "devices.txt")?;
+    println!(rt; "{devices} runs over devices that fail in turn")?;
     check_calls(&rt)?;
     println!(rt; "all single calls are as worked")?;
     let file = fs::read(&rt, "logs/altitudes.gcl")?;
