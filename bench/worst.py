@@ -2,7 +2,7 @@
 """What a stranger's log or file costs at most: makes the dearest that were found, and measures the program over them.
 
 Logs. `steep`: one node whose equations are reduced a degree at a time, each step by the product of a polynomial of 1,980 terms with
-one of two, of which two terms are left. Its coefficients are so large that each row of the product is judged by itself: nothing was
+one term, of which one term is left. Two coefficients are so large that each row of the product is judged by itself: nothing was
 found that takes more work for each unit of fuel. `long`: as many hypotheses as there may be, each as long as may be, listed
 once more at an open leaf. `line`: one line without an end.
 Files. `dashes`: dashed segments across a picture that is as wide as may be. `circles`, `lines` and `ratios`: random figures of about
@@ -30,14 +30,9 @@ def term(coefficient, factors):
 
 
 def box(width, height, behind):
-    """The products of the powers of u1 below `width` and those of u2 below `height`, times what stands behind; the first is large."""
+    """The products of the powers of u1 below `width` and those of u2 below `height`, times what stands behind; the first two are large."""
     places = [(i, j) for i in reversed(range(height)) for j in reversed(range(width))]
-    return " + ".join(term(2**63 if k == 0 else 1, [("u1", j), ("u2", i), *behind]) for k, (i, j) in enumerate(places))
-
-
-def pair(behind):
-    """Two terms, the first large, times what stands behind."""
-    return f"{term(2**64 - 1, [('u1', 1), *behind])} + {term(1, behind)}"
+    return " + ".join(term(2**126 if k < 2 else 1, [("u1", j), ("u2", i), *behind]) for k, (i, j) in enumerate(places))
 
 
 def steep(size):
@@ -46,19 +41,19 @@ def steep(size):
     width, height = (44, 45) if size >= 100_000 else (max(2, int((size / 60) ** 0.5)),) * 2
     known = box(width, height, [])
     hyps = [f"{box(width, height, [(f'x{k}', 1)])} + 1" for k in range(1, last + 1)]
-    hyps += [pair([(f"x{k}", 63) for k in range(1, last + 1)])] * (48 - last)
+    hyps += [term(1, [(f"x{k}", 63) for k in range(1, last + 1)])] * (48 - last)
     lines = ["gclc-proof 1", "proves 1", "prove 1", " ".join(["vars", "u1", "u2"] + [f"x{k}" for k in range(1, last + 1)])]
     lines += [f"hyp {h}" for h in hyps] + ["con u1", "node .", f"split 1 {known}", "node .+"]
     count = width * height
-    left = (FUEL - 1 - count) * 7 // 8 - (4 + last * (count + 2) + (48 - last) * 3 + count + 1)
+    left = (FUEL - 1 - count) * 7 // 8 - (4 + last * (count + 2) + (48 - last) * 2 + count + 1)
     length = sum(len(line) + 1 for line in lines)
     for g in range(last, 48):
         for k in range(1, last + 1):
             for power in reversed(range(63)):
-                left -= 3
+                left -= 2
                 if left < 0 or length > size:
                     return "\n".join(lines) + "\n"
-                rest = pair([(f"x{k}", power), *((f"x{n}", 63) for n in range(k + 1, last + 1))])
+                rest = term(1, [(f"x{k}", power), *((f"x{n}", 63) for n in range(k + 1, last + 1))])
                 lines.append(f"red {g + 1} {k} -1 {rest}")
                 length += len(lines[-1]) + 1
     return "\n".join(lines) + "\n"
