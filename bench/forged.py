@@ -81,14 +81,14 @@ def header(lines, chance):
 CHANGES = [sign, digit, byte, left_out, twice, moved, cut, header]
 
 
-def run(path):
-    """The status of `check` (None where it was ended past the limit of time), what it wrote, and its most resident kilobytes."""
-    with tempfile.TemporaryFile() as wrote:
-        child = subprocess.Popen(["timeout", "--signal=KILL", str(SECONDS), PROGRAM, "check", path], stdout=wrote, stderr=wrote)
-        _, state, use = os.wait4(child.pid, 0)
-        child.returncode = os.waitstatus_to_exitcode(state)
-        wrote.seek(0)
-        return child.returncode if child.returncode >= 0 else None, wrote.read(), use.ru_maxrss
+def run(path, folder):
+    """The status of `check` (that of a killed one past the limit of time), what it wrote, and its most resident kilobytes.
+
+    A small program waits for it, since the memory of the one that starts a program counts as its own."""
+    told = folder / "memory"
+    done = subprocess.run(["time", "--quiet", "-f", "%M", "-o", told, "timeout", "--signal=KILL", str(SECONDS), PROGRAM, "check", path],
+                          stdout=subprocess.PIPE, stderr=subprocess.STDOUT)
+    return done.returncode, done.stdout, int(told.read_text().split()[-1])
 
 
 def second(checker, path):
@@ -113,14 +113,16 @@ def main():
     count = int(sys.argv[1]) if len(sys.argv) > 1 else 1000
     chance = random.Random(int(sys.argv[2]) if len(sys.argv) > 2 else 1)
     checker = sys.argv[3:]
-    answers, faults, usual = collections.Counter(), 0, {}
-    with tempfile.TemporaryDirectory() as folder:
-        path = pathlib.Path(folder) / "forged.log"
+    answers, faults, usual, most = collections.Counter(), 0, {}, 0
+    with tempfile.TemporaryDirectory() as name:
+        folder = pathlib.Path(name)
+        path = folder / "forged.log"
         for log, change, what, text in forged(count, chance):
             if log not in usual:
-                usual[log] = run(log)[2]
+                usual[log] = run(log, folder)[2]
             path.write_text(text, encoding="latin-1")
-            status, wrote, memory = run(path)
+            status, wrote, memory = run(path, folder)
+            most = max(most, memory - usual[log])
             word = wrote.split(b": ")[-1].split(b"\n")[0].decode("latin-1") if status == 2 else ""
             answers[f"{change}: {status} {word}".strip()] += 1
             told = f"{log.name}, {what}: status {status}, {memory} kB, {wrote}"
@@ -134,7 +136,7 @@ def main():
                 print(f"assured: {told}")
     for answer, number in sorted(answers.items()):
         print(f"{number:6} {answer}")
-    print(f"{sum(answers.values())} forged logs, {faults} faults")
+    print(f"{sum(answers.values())} forged logs of {len(usual)} logs, {faults} faults; at most {most} kB more than the log changed")
     return 1 if faults else 0
 
 

@@ -137,13 +137,15 @@ def ratios(seed):
 
 
 def measure(program, words, limit):
-    """The status (None past the limit), the seconds of processor time and the most resident MiB of a run, and the bytes that it wrote."""
-    with tempfile.TemporaryFile() as wrote:
-        child = subprocess.Popen(["timeout", "--signal=KILL", str(limit), program, *words], stdout=wrote, stderr=wrote)
-        _, state, use = os.wait4(child.pid, 0)
-        child.returncode = os.waitstatus_to_exitcode(state)
-        status = child.returncode if child.returncode >= 0 else None
-        return status, use.ru_utime + use.ru_stime, use.ru_maxrss / 1024, os.fstat(wrote.fileno()).st_size
+    """The status (None past the limit), the seconds of processor time and the most resident MiB of a run, and the bytes that it wrote.
+
+    A small program waits for it, since the memory of the one that starts a program counts as its own."""
+    with tempfile.TemporaryFile() as wrote, tempfile.NamedTemporaryFile("r") as told:
+        timed = ["time", "--quiet", "-f", "%U %S %M", "-o", told.name, "timeout", "--signal=KILL", str(limit)]
+        done = subprocess.run([*timed, program, *words], stdout=wrote, stderr=wrote)
+        user, system, memory = told.read().split()[-3:]
+        status = None if done.returncode == 137 else done.returncode
+        return status, float(user) + float(system), int(memory) / 1024, os.fstat(wrote.fileno()).st_size
 
 
 def row(program, name, words, path, limit):

@@ -8,6 +8,8 @@ use std::process::ExitCode;
 use std::sync::Wait;
 use std::thread::Threads;
 
+const OUT_OF_MEMORY: u8 = 8;
+
 /// What of a run the lines of a table add to.
 #[derive(Clone, Copy)]
 pub enum Part {
@@ -27,6 +29,14 @@ pub struct Devices {
     pub most: usize,
     pub room: usize,
     pub notes_room: usize,
+}
+
+/// A desk and two sinks in memory.
+#[derive(Drop)]
+struct Made {
+    desk: MemDesk,
+    out: MemSink,
+    notes: MemSink,
 }
 
 /// How a run has ended, and what it has put.
@@ -135,6 +145,34 @@ impl Case {
         Ok(files)
     }
 
+    // Such a desk, which has the files, and such sinks.
+    fn made(&self, alloc: Global, devices: Devices) -> Result<Made, AllocError> {
+        let files = self.files_again(alloc)?;
+        Ok(Made {
+            desk: MemDesk::cut(files, vec![in alloc; devices.read]?, devices.most.max(1)),
+            out: MemSink::new(alloc, devices.room, vec![in alloc; devices.put]?)?,
+            notes: MemSink::new(alloc, devices.notes_room, vec![in alloc; devices.note]?)?,
+        })
+    }
+
+    // Runs the program over them.
+    fn run_over<R: Threads + Wait + Sync>(
+        &self,
+        rt: &R,
+        alloc: Global,
+        made: &mut Made,
+    ) -> ExitCode {
+        exit_code(gclc_run(
+            rt,
+            alloc,
+            &Gaussian,
+            &self.words,
+            &mut made.desk,
+            &mut made.out,
+            &mut made.notes,
+        ))
+    }
+
     /// Runs the program over such a desk and such sinks.
     pub fn run<R: Threads + Wait + Sync>(
         &self,
@@ -142,24 +180,32 @@ impl Case {
         alloc: Global,
         devices: Devices,
     ) -> Result<Ended, AllocError> {
-        let files = self.files_again(alloc)?;
-        let mut desk = MemDesk::cut(files, vec![in alloc; devices.read]?, devices.most.max(1));
-        let mut out = MemSink::new(alloc, devices.room, vec![in alloc; devices.put]?)?;
-        let mut notes = MemSink::new(alloc, devices.notes_room, vec![in alloc; devices.note]?)?;
-        let status = gclc_run(
-            rt,
-            alloc,
-            &Gaussian,
-            &self.words,
-            &mut desk,
-            &mut out,
-            &mut notes,
-        );
+        let mut made = self.made(alloc, devices)?;
+        let code = self.run_over(rt, alloc, &mut made);
         Ok(Ended {
-            code: exit_code(status),
-            out: out.bytes().to_vec(alloc)?,
-            notes: notes.bytes().to_vec(alloc)?,
+            code,
+            out: made.out.bytes().to_vec(alloc)?,
+            notes: made.notes.bytes().to_vec(alloc)?,
         })
+    }
+
+    /// Runs the program once, and tells in a word how it ended: as said, without memory and without a byte, or otherwise. Before the
+    /// run desk and sinks are made, and behind it no memory is taken.
+    pub fn told<R: Threads + Wait + Sync>(
+        &self,
+        rt: &R,
+        alloc: Global,
+    ) -> Result<&'static str, AllocError> {
+        let mut made = self.made(alloc, self.devices)?;
+        let code = self.run_over(rt, alloc, &mut made);
+        let (out, notes) = (made.out.bytes(), made.notes.bytes());
+        if code == ExitCode::from(OUT_OF_MEMORY) && out.is_empty() && notes.is_empty() {
+            return Ok("out of memory");
+        }
+        let is_as_said = code == ExitCode::from(self.status)
+            && out == self.out.as_slice()
+            && notes == self.notes.as_slice();
+        Ok(if is_as_said { "as said" } else { "otherwise" })
     }
 
     /// A run has ended with the status and the bytes that are to come.

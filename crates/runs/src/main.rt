@@ -1,6 +1,7 @@
 //! Whole runs of the program, as tables, and rows of single calls: runs each over files and sinks in memory, and names those that
-//! come out otherwise than worked. With three words, an operation on polynomials of many terms is done so many times instead, so that
-//! its instructions can be counted.
+//! come out otherwise than worked. With two words, a table and a line, the row of that line alone is run, once, over a desk and sinks
+//! that are made before. With three words, an operation on polynomials of many terms is done so many times instead, so that its
+//! instructions can be counted.
 #![tactic(auto)]
 
 mod arithmetic;
@@ -54,6 +55,35 @@ fn run_table<R: Files + AllocGlobal + Print + Threads + Wait + Sync>(
         println!(rt; "{name}, line {line}: another answer")?;
     }
     Ok(good)
+}
+
+// Runs the row of a table that begins at this line, once, and tells how it ended.
+fn run_row<R: Files + AllocGlobal + Print + Threads + Wait + Sync>(
+    rt: &R,
+    name: &str,
+    first: u32,
+) -> Result<()> {
+    let text = fs::read_to_string(rt, name)?;
+    let mut table = Table::new(rt.alloc());
+    let mut number: u32 = 0;
+    for line in text.lines() {
+        number = number.saturating_add(1);
+        if number < first {
+            continue;
+        }
+        if number > first && line.starts_with("run") {
+            break;
+        }
+        match line.strip_prefix("from ") {
+            Some(name) => table.put(&fs::read(rt, name)?)?,
+            None => table.take(rt, number, line)?,
+        }
+    }
+    let Some(case) = table.last_row() else {
+        bail!("this is no row");
+    };
+    println!(rt; "{}", case.told(rt, rt.alloc())?)?;
+    Ok(())
 }
 
 // The rows of single calls.
@@ -171,6 +201,9 @@ fn main(rt: HostRuntime) -> Result<()> {
     if let Some(size) = repeated(alloc, &words)? {
         println!(rt; "{size} terms")?;
         return Ok(());
+    }
+    if let [name, line] = words.as_slice() {
+        return run_row(&rt, name.as_str(), line.parse()?);
     }
     let runs = run_table(&rt, "runs.txt")?;
     let logs = run_table(&rt, "logs.txt")?;

@@ -138,6 +138,11 @@ impl Table {
         Ok(())
     }
 
+    /// The row that is being read, as far as it has come.
+    pub fn last_row(self) -> Option<Case> {
+        self.case
+    }
+
     /// Runs the last row, and gives the number of the runs that came out as the table says and the lines of the others.
     pub fn end<R: Threads + Wait + Sync>(mut self, rt: &R) -> Result<(u32, Vec<u32>), AllocError> {
         self.finish(rt)?;

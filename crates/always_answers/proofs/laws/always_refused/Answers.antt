@@ -1,3 +1,4 @@
+use Rattle.std.proofs.Common.{inl, inr}
 use Rattle.always_answers.proofs.Shown.{done_alone}
 use Rattle.always_answers.proofs.laws.always_refused.Goals as goal
 
