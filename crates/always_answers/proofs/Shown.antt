@@ -31,5 +31,6 @@ answer_is_done a e = e ∙ ap (λ (r : Result (List ℕ) Refusal). answer_from t
 pub done_alone : {K S N : Type 0} (v : Views K S N) (old new : Lent K S N) (status : Status)
     → Shown v old new status → (status ≡ Done) ⊎ (status ≡ OutOfMemory)
 done_alone v old new status s = elim (s.kept.complete empty_file s.told s.reads s.puts s.says) [
-    inl w ↦ inl (w.2.status_is ∙ ap (λ (a : Answer). a.status) (answer_is_done w.0 w.1)) |
-    inr n ↦ inr n.status_is ]
+  | inl w ↦ inl (w.2.status_is ∙ ap (λ (a : Answer). a.status) (answer_is_done w.0 w.1))
+  | inr n ↦ inr n.status_is
+]
