@@ -1,0 +1,64 @@
+-- The place of a fault, without the table of fitting lines: which lines begin those of an accepted log.
+use Rattle.std.specs.Prelude.{◌≡◌, ◌↔◌, ◌≤◌, ◌⊎◌, ℕ, List, [], ◌∷◌, ◌++◌, Some, None}
+use Rattle.proof_steps.specs.Rules.{size_of}
+use Rattle.proof_log.specs.Accepted.{IsAccepted}
+use Rattle.proof_log.specs.Grammar.{IsFront, IsLog}
+use Rattle.proof_log.specs.Lines.{log_lines}
+use Rattle.proof_log.specs.Text.{AreLines}
+use Rattle.proof_log.specs.declared.line.LogLine.{LogLine}
+use Rattle.proof_log.specs.declared.log.Proof.{Proof}
+use Rattle.log_checker.specs.Fitting.{Part, Opening, Within, Between, State, begin, root, after, fitted}
+
+-- The lines begin those of an accepted log.
+pub record BeginAccepted (lines : List LogLine) : Type 0 where
+  pub version : ℕ
+  pub log : List Proof
+  pub fits : IsLog log
+  pub spelled : AreLines [] (log_lines version log)
+  pub accepted : IsAccepted version log
+  pub more : List LogLine
+  pub begins : log_lines version log ≡ lines ++ more
+
+-- Where a problem is being told, its root has fuel for its size so far.
+abbrev pub RootHasFuel : State → Part → Type 0
+RootHasFuel s Opening = size_of (root s) ≤ s.fuel
+RootHasFuel s (Within path i) = Unit {0}
+RootHasFuel s Between = Unit {0}
+
+abbrev pub HasRoom : State → Type 0
+HasRoom s = RootHasFuel s s.part
+
+-- Each line fits, and the root has room.
+pub record Fit (lines : List LogLine) : Type 0 where
+  pub state : State
+  pub fit : fitted begin lines ≡ Some state
+  pub room : HasRoom state
+
+-- Lines that the grammar lets through.
+pub record AreLetThrough (lines : List LogLine) : Type 0 where
+  pub spelled : AreLines [] lines
+  pub grammar : IsFront lines
+
+-- A line that does not fit behind these.
+abbrev pub IsUnfit : List LogLine → LogLine → Type 0
+IsUnfit front line = (s : State) × (fitted begin front ≡ Some s) × (after s line ≡ None)
+
+-- ---- the laws
+
+-- Fitting is the same as to begin an accepted log.
+abbrev pub FittingBegins : Type 0
+FittingBegins = (lines : List LogLine) → AreLetThrough lines → Fit lines ↔ BeginAccepted lines
+
+-- A line is rejected exactly where the lines before it begin an accepted log and together with it begin none. The one
+-- exception is a root without fuel for its size, which the line behind its problem is rejected for.
+abbrev pub IsFirst : List LogLine → LogLine → Type 0
+IsFirst front line = BeginAccepted front × (BeginAccepted (front ++ line ∷ []) → ⊥)
+
+abbrev pub Overfills : List LogLine → Type 0
+Overfills lines = (s : State) × (fitted begin lines ≡ Some s) × (HasRoom s → ⊥)
+
+abbrev pub RejectedIsFirst : Type 0
+RejectedIsFirst =
+    (front : List LogLine) (line : LogLine) → AreLetThrough (front ++ line ∷ [])
+    → (IsUnfit front line → (IsFirst front line ⊎ Overfills front) × (BeginAccepted (front ++ line ∷ []) → ⊥))
+    × (IsFirst front line → IsUnfit front line ⊎ Overfills (front ++ line ∷ []))
