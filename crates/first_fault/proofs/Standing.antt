@@ -8,7 +8,10 @@ use Rattle.poly_model.specs.declared.vars.VarName.{VarName}
 use Rattle.proof_steps.specs.Rules.{size_of}
 use Rattle.proof_steps.specs.declared.piece.Node.{Node}
 use Rattle.tree_laws.specs.Costs.{HaveFuel}
-use Rattle.proof_log.specs.declared.limits.TheConstants.{MOST_PROOFS}
+use Rattle.proof_log.specs.Text.{FitsPoly, names_after}
+use Rattle.proof_log.specs.declared.limits.TheConstants.{MOST_PROOFS, VERSION}
+use Rattle.proof_log.specs.declared.line.LogLine.{LogLine}
+use Rattle.proof_log.specs.declared.line.LogLine.TheVariants as line
 use Rattle.proof_log.specs.declared.place.Part.{Part}
 use Rattle.proof_log.specs.declared.place.Part.TheVariants as part
 use Rattle.proof_log.specs.declared.place.Place.{Place}
@@ -72,24 +75,55 @@ pub record Shared (proofs left fuel : ℕ) : Type 0 where
   pub few : proofs ≤ MOST_PROOFS
   pub fewer : left ≤ proofs
 
-pub record InProof (p : Part) (s : Place) (t : State) : Type 0 where
-  pub shared : Shared s.proofs s.left t.fuel
+pub record InProof (p : Part) (proofs left : ℕ) (whole : Bool) (t : State) : Type 0 where
+  pub shared : Shared proofs left t.fuel
   pub waiting : HaveFuel t.waiting
-  pub inside : IsWithin (Inner p s.whole) t.part
+  pub inside : IsWithin (Inner p whole) t.part
 
-abbrev pub Known : Part → Place → State → Type 0
-Known part.Start s t = IsBetween t.part
-Known part.Head s t = IsBetween t.part
-Known part.Between s t = Shared s.proofs s.left t.fuel × IsBetween t.part
-Known part.Prove s t = Shared s.proofs s.left t.fuel × IsOpening t.part × (s.cons ≡ 0)
-Known part.Hyps s t = Shared s.proofs s.left t.fuel × IsOpening t.part × (s.cons ≡ 0)
-Known part.Cons s t = Shared s.proofs s.left t.fuel × IsOpening t.part × (s.whole ≡ true)
-Known part.Steps s t = InProof part.Steps s t
-Known part.Eqs s t = InProof part.Eqs s t
-Known part.Nes s t = InProof part.Nes s t
-Known part.Chain s t = InProof part.Chain s t
-Known part.Pieces s t = InProof part.Pieces s t
-Known part.Done s t = IsBetween t.part
+abbrev pub Known : Part → (proofs left cons : ℕ) → (whole : Bool) → State → Type 0
+Known part.Start n left c w t = IsBetween t.part
+Known part.Head n left c w t = IsBetween t.part
+Known part.Between n left c w t = Shared n left t.fuel × IsBetween t.part
+Known part.Prove n left c w t = Shared n left t.fuel × IsOpening t.part × (c ≡ 0)
+Known part.Hyps n left c w t = Shared n left t.fuel × IsOpening t.part × (c ≡ 0)
+Known part.Cons n left c w t = Shared n left t.fuel × IsOpening t.part × (w ≡ true)
+Known part.Steps n left c w t = InProof part.Steps n left w t
+Known part.Eqs n left c w t = InProof part.Eqs n left w t
+Known part.Nes n left c w t = InProof part.Nes n left w t
+Known part.Chain n left c w t = InProof part.Chain n left w t
+Known part.Pieces n left c w t = InProof part.Pieces n left w t
+Known part.Done n left c w t = IsBetween t.part
 
 abbrev pub Stands : Place → State → Type 0
-Stands s t = Known s.part s t
+Stands s t = Known s.part s.proofs s.left s.cons s.whole t
+
+-- ---- lines that tell of a log what its proofs don't fix
+-- whether such a line can stand in a log over these variables
+abbrev pub IsPosing : List VarName → LogLine → Type 0
+IsPosing names (line.Head v) = (1 ≤ v) × (v ≤ VERSION)
+IsPosing names (line.Proves n) = n ≤ MOST_PROOFS
+IsPosing names (line.Vars ns) = IsTrue (are_variables ns)
+IsPosing names (line.Hyp p) = FitsPoly names p
+IsPosing names (line.Con p) = FitsPoly names p
+IsPosing names (line.Prove k) = Unit {0}
+IsPosing names (line.Node path) = Unit {0}
+IsPosing names (line.Drop i) = Unit {0}
+IsPosing names (line.Red g f m r) = Unit {0}
+IsPosing names (line.Tail f r) = Unit {0}
+IsPosing names (line.Split f initial) = Unit {0}
+IsPosing names (line.Close i) = Unit {0}
+IsPosing names (line.Clash i j) = Unit {0}
+IsPosing names line.System = Unit {0}
+IsPosing names (line.Chain c) = Unit {0}
+IsPosing names line.Proved = Unit {0}
+IsPosing names (line.Remainder k) = Unit {0}
+IsPosing names (line.Unreduced k why f) = Unit {0}
+IsPosing names (line.Open why what) = Unit {0}
+IsPosing names (line.Eq p) = Unit {0}
+IsPosing names (line.Ne p) = Unit {0}
+IsPosing names (line.Verdict v) = Unit {0}
+IsPosing names line.End = Unit {0}
+
+abbrev pub ArePosing : List VarName → List LogLine → Type 0
+ArePosing names [] = Unit {0}
+ArePosing names (l ∷ ls) = IsPosing names l × ArePosing (names_after names l) ls
