@@ -39,7 +39,7 @@ use Rattle.log_checker.specs.Fitting.{Work, At, Chaining, Ended, Inside, State, 
 use Rattle.first_fault.proofs.Standing.{IsEmpty, IsNode, Works, Inner, IsBetween, IsOpening, IsWithin, Shared, InProof, Known, Stands, IsPosing}
 
 -- ---- what a row gives
-fits-some : {A : Type 0} (b : Bool) (x y : A) → where_fits b x ≡ Some y → (b ≡ true) × (x ≡ y)
+pub fits-some : {A : Type 0} (b : Bool) (x y : A) → where_fits b x ≡ Some y → (b ≡ true) × (x ≡ y)
 fits-some true x y e = (refl, same_Some x y e)
 fits-some false x y e = cc
 
@@ -160,11 +160,11 @@ opening-settled t u e =
     subst (Settled t) f.1 made
 
 -- ---- places
-abbrev cases : (Claim : Part → Type 0) (ps : List Part) → Type 0
+abbrev pub cases : (Claim : Part → Type 0) (ps : List Part) → Type 0
 cases Claim [] = Unit {0}
 cases Claim (p ∷ ps) = Claim p × cases Claim ps
 
-by_parts : (Claim : Part → Type 0) (ps : List Part) (q : Part) → list_any (λ r. nat_eq (number r) (number q)) ps ≡ true → cases Claim ps → Claim q
+pub by_parts : (Claim : Part → Type 0) (ps : List Part) (q : Part) → list_any (λ r. nat_eq (number r) (number q)) ps ≡ true → cases Claim ps → Claim q
 by_parts Claim [] q e c = cc
 by_parts Claim (p ∷ ps) q e c = elim (nat_eq (number p) (number q)) as (λ t. nat_eq (number p) (number q) ≡ t → (t || list_any (λ r. nat_eq (number r) (number q)) ps) ≡ true → Claim q) [
   | true ↦ λ h _. subst Claim (sym (same_part p q h)) c.0

@@ -49,16 +49,18 @@ IsUnfit front line = (s : State) × (fitted begin front ≡ Some s) × (after s 
 abbrev pub FittingBegins : Type 0
 FittingBegins = (lines : List LogLine) → AreLetThrough lines → Fit lines ↔ BeginAccepted lines
 
--- A line is rejected exactly where the lines before it begin an accepted log and together with it begin none. The one
--- exception is a root without fuel for its size, which the line behind its problem is rejected for.
-abbrev pub IsFirst : List LogLine → LogLine → Type 0
-IsFirst front line = BeginAccepted front × (BeginAccepted (front ++ line ∷ []) → ⊥)
-
+-- The root that is told by these lines has no fuel for its size.
 abbrev pub Overfills : List LogLine → Type 0
 Overfills lines = (s : State) × (fitted begin lines ≡ Some s) × (HasRoom s → ⊥)
 
+-- The lines before this one begin an accepted log, and together with it they begin none.
+abbrev pub IsFirst : List LogLine → LogLine → Type 0
+IsFirst front line = BeginAccepted front × (BeginAccepted (front ++ line ∷ []) → ⊥)
+
+-- A line does not fit exactly where it is the first such line. The one exception is a root without fuel for its size: no
+-- line of the problem is unfit for that, but the line behind the problem.
 abbrev pub RejectedIsFirst : Type 0
 RejectedIsFirst =
     (front : List LogLine) (line : LogLine) → AreLetThrough (front ++ line ∷ [])
-    → (IsUnfit front line → (IsFirst front line ⊎ Overfills front) × (BeginAccepted (front ++ line ∷ []) → ⊥))
+    → (IsUnfit front line → (BeginAccepted front ⊎ Overfills front) × (BeginAccepted (front ++ line ∷ []) → ⊥))
     × (IsFirst front line → IsUnfit front line ⊎ Overfills (front ++ line ∷ []))
