@@ -23,10 +23,10 @@ use Rattle.proof_log.specs.declared.line.LogLine.TheVariants as line
 use Rattle.proof_log.specs.declared.place.Part.{Part}
 use Rattle.proof_log.specs.declared.place.Part.TheVariants as part
 use Rattle.proof_log.specs.declared.place.Place.{Place}
-use Rattle.proof_log.proofs.Runs.{at, one}
 use Rattle.log_checker.specs.Fitting as fitting
 use Rattle.log_checker.specs.Fitting.{Work, Chaining, Ended, Inside, State, listed, where_fits, proved_row, remainder_row, unreduced_row, chain_row, in_piece, inside_row, by_part, after, fitted}
 use Rattle.log_checker.proofs.Fits.{fitted_from, st}
+use Rattle.first_fault.proofs.Places.{at, one}
 use Rattle.first_fault.proofs.Standing.{IsPosing, ArePosing}
 
 -- Lines that stand well and fit from here to the end of a log.

@@ -6,6 +6,7 @@ use Rattle.std.proofs.lemmas.Option.{same_Some}
 use Rattle.poly_model.specs.Polynomial.{Polynomial}
 use Rattle.poly_model.specs.declared.vars.VarName.{VarName}
 use Rattle.proof_steps.specs.Rules.{sizes, size_of}
+use Rattle.verdicts.specs.declared.verdict.Verdict.{Verdict}
 use Rattle.proof_log.specs.Grammar.{IsFront}
 use Rattle.proof_log.specs.Lines.{log_lines}
 use Rattle.proof_log.specs.Places.{parts_before, goes, start, run}
@@ -15,23 +16,33 @@ use Rattle.proof_log.specs.declared.line.LogLine.TheVariants as line
 use Rattle.proof_log.specs.declared.place.Part.{Part}
 use Rattle.proof_log.specs.declared.place.Part.TheVariants as part
 use Rattle.proof_log.specs.declared.place.Place.{Place}
-use Rattle.proof_log.proofs.Completed.{front_of_front}
 use Rattle.proof_log.proofs.Logs.{run_log, run_append, whole_is}
-use Rattle.proof_log.proofs.Runs.{run_from}
-use Rattle.proof_log.proofs.Steps.{Stepped, stepped}
 use Rattle.log_checker.specs.Fitting as fitting
 use Rattle.log_checker.specs.Fitting.{State, begin, root, where_fits, settled, node_settled, verdict_settled, inside_row, by_part, after, fitted}
 use Rattle.log_checker.proofs.Fits.{fitted_from, log_accepted, log_goes}
-use Rattle.log_checker.proofs.Passes.{lines_front}
-use Rattle.log_checker.proofs.Running.{fitted_append}
 use Rattle.first_fault.specs.FirstFault.{BeginAccepted, RootHasFuel, HasRoom, Fit, AreLetThrough, IsUnfit, FittingBegins, IsFirst, Overfills, RejectedIsFirst}
-use Rattle.first_fault.proofs.Standing.{IsBetween, IsOpening, Known, Stands, ArePosing}
-use Rattle.first_fault.proofs.Keeping.{by_parts, cases, fits-some, keeps}
+use Rattle.first_fault.proofs.Standing.{IsBetween, IsOpening, IsWithin, Known, Stands, ArePosing}
+use Rattle.first_fault.proofs.Places.{cases, by_parts, Stepped, stepped, run_from}
+use Rattle.first_fault.proofs.Keeping.{fits-some, keeps}
 use Rattle.first_fault.proofs.Ending.{Ends}
 use Rattle.first_fault.proofs.Working.{goes-on}
 use Rattle.first_fault.proofs.Spelling.{all-posing, posing-append, log-spelled}
 
 -- ---- lines before others
+front_of_front : (ls : List LogLine) (l : LogLine) → IsFront (ls ++ l ∷ []) → IsFront ls
+front_of_front ls l f = record { version = f.version; log = f.log; fits = f.fits; more = l ∷ f.more; begins = f.begins ∙ append_assoc ls (l ∷ []) f.more }
+
+lines_front : (names : List VarName) (a b : List LogLine) → AreLines names (a ++ b) → AreLines names a
+unfolding AreLines
+lines_front names [] b h = tt
+lines_front names (l ∷ a) b h = (h.0, lines_front (names_after names l) a b h.1)
+
+fitted_append : (s t : State) (a b : List LogLine) → fitted s a ≡ Some t → fitted s (a ++ b) ≡ fitted t b
+unfolding fitted
+fitted_append s t [] b e = ap (λ o. fitted_from o b) e
+fitted_append s t (l ∷ a) b e = elim (after s l) as (λ o. fitted_from o a ≡ Some t → fitted_from o (a ++ b) ≡ fitted t b)
+    [ None ↦ λ h. cc | Some u ↦ λ h. fitted_append u t a b h ] e
+
 run_front : (s u : Place) (a b : List LogLine) → run s (a ++ b) ≡ Some u → (r : Place) × (run s a ≡ Some r)
 unfolding run
 run_front s u [] b e = (s, refl)
@@ -115,7 +126,7 @@ no-node : (path : List Bool) (v : State) (o : Option State) → ((u : State) →
 no-node path v None none e = cc
 no-node path v (Some u) none e = none u refl
 
-no-verdict : (x : Rattle.verdicts.specs.declared.verdict.Verdict.Verdict) (v : State) (o : Option State) → ((u : State) → o ≡ Some u → ⊥) → verdict_settled x o ≡ Some v → ⊥
+no-verdict : (x : Verdict) (v : State) (o : Option State) → ((u : State) → o ≡ Some u → ⊥) → verdict_settled x o ≡ Some v → ⊥
 no-verdict x v None none e = cc
 no-verdict x v (Some u) none e = none u refl
 
@@ -185,7 +196,7 @@ telling-at p n left c w t o k = by p t.part o k
     outside (fitting.Within path i) o k = k
     outside fitting.Between o k = o
 
-    within : (P : fitting.Inside → Type 0) (q : fitting.Part) → IsOpening q → Rattle.first_fault.proofs.Standing.IsWithin P q → ⊥
+    within : (P : fitting.Inside → Type 0) (q : fitting.Part) → IsOpening q → IsWithin P q → ⊥
     within P fitting.Opening o k = k
     within P (fitting.Within path i) o k = o
     within P fitting.Between o k = o
@@ -256,6 +267,10 @@ unfit-begins-none front l u b =
     let g : ◌≡◌ {A = Option State} None (Some f.state) = ap (λ o. fitted_from o []) (sym u.2) ∙ e in
     cc
 
+last : (t : State) → fitted_from (Some t) [] ≡ Some t
+unfolding fitted
+last t = refl
+
 module _ (front : List LogLine) (l : LogLine) (w : AreLetThrough (front ++ l ∷ [])) where
   rejected : IsUnfit front l → (BeginAccepted front ⊎ Overfills front) × (BeginAccepted (front ++ l ∷ []) → ⊥)
   rejected u = (elim (has-room u.0 u.0.part) [
@@ -269,10 +284,6 @@ module _ (front : List LogLine) (l : LogLine) (w : AreLetThrough (front ++ l ∷
   fitted_on s f (Some t) e none =
       let fit : fitted begin (front ++ l ∷ []) ≡ Some t = fitted_append begin s front (l ∷ []) f ∙ one_fits s l ∙ ap (λ o. fitted_from o []) e ∙ last t in
       inr (t, fit, λ room. none (fit-begins (front ++ l ∷ []) w (record { state = t; fit = fit; room = room })))
-    where
-      last : (t : State) → fitted_from (Some t) [] ≡ Some t
-      unfolding fitted
-      last t = refl
 
   first : IsFirst front l → IsUnfit front l ⊎ Overfills (front ++ l ∷ [])
   first h = let f = begun-fits front h.0 in fitted_on f.state f.fit (after f.state l) refl h.1

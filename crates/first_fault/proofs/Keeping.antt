@@ -1,7 +1,6 @@
 -- What is known is known behind each line more that fits.
-use Rattle.std.proofs.Common.{◌≡◌, ℕ, ◌+◌, ◌-◌, ◌/◌, ◌<◌, ◌≤◌, List, [], ◌∷◌, ◌++◌, Bool, true, false, ◌&&◌, ◌||◌, ◌==◌, nat_eq, nat_lt, refl, sym, ◌∙◌, ap, subst, arith, Option, Some, None}
+use Rattle.std.proofs.Common.{◌≡◌, ℕ, ◌+◌, ◌-◌, ◌/◌, ◌<◌, ◌≤◌, List, [], ◌∷◌, ◌++◌, Bool, true, false, ◌&&◌, ◌==◌, nat_lt, refl, sym, ◌∙◌, ap, subst, arith, Option, Some, None}
 use Rattle.std.specs.Prelude.{ℤ, nat_le, if◌then◌else◌}
-use Rattle.std.specs.List.{list_any}
 use Rattle.std.proofs.lemmas.Bool.{and_parts, leb-true}
 use Rattle.std.proofs.lemmas.Option.{same_Some}
 use Rattle.poly_model.specs.Polynomial.{Polynomial}
@@ -25,7 +24,7 @@ use Rattle.tree_laws.specs.Costs.{HaveFuel}
 use Rattle.tree_laws.proofs.Paid.{have-append, reasons-are-right}
 use Rattle.verdicts.specs.Tallies.{Ending, no_tally}
 use Rattle.verdicts.specs.declared.verdict.Verdict.{Verdict}
-use Rattle.proof_log.specs.Places.{number, parts_before, part_behind, stands, counted}
+use Rattle.proof_log.specs.Places.{parts_before}
 use Rattle.proof_log.specs.Text.{row_of}
 use Rattle.proof_log.specs.declared.limits.TheConstants.{MOST_PROOFS}
 use Rattle.proof_log.specs.declared.line.LogLine.{LogLine}
@@ -33,9 +32,9 @@ use Rattle.proof_log.specs.declared.line.LogLine.TheVariants as line
 use Rattle.proof_log.specs.declared.place.Part.{Part}
 use Rattle.proof_log.specs.declared.place.Part.TheVariants as part
 use Rattle.proof_log.specs.declared.place.Place.{Place}
-use Rattle.proof_log.proofs.Steps.{same_part, Stepped}
 use Rattle.log_checker.specs.Fitting as fitting
 use Rattle.log_checker.specs.Fitting.{Work, At, Chaining, Ended, Inside, State, listed, where_fits, where_whole, by_node, at_node, by_chain, in_chain, step_row, split_row, close_row, clash_row, system_row, open_row, chain_row, proved_row, remainder_row, unreduced_row, eq_row, ne_row, in_piece, end_of_work, end_of, root, behind, settled, node_row, node_settled, verdict_row, verdict_settled, inside_row, by_part, after}
+use Rattle.first_fault.proofs.Places.{cases, by_parts, Stepped}
 use Rattle.first_fault.proofs.Standing.{IsEmpty, IsNode, Works, Inner, IsBetween, IsOpening, IsWithin, Shared, InProof, Known, Stands, IsPosing}
 
 -- ---- what a row gives
@@ -87,7 +86,7 @@ step-gives version n s w j e =
 split-gives : (version : ℕ) (n : Node) (f : ℕ) (initial : Polynomial) (j : Inside) → split_row version n f initial ≡ Some j → Inner part.Pieces true j
 split-gives version n f initial j e =
     let r = fits-some _ _ j e in
-    let free = none-reason (reason_of version n (attempt.Split f)) (and_parts (is_valid version n (attempt.Split f)) _ (and_parts _ _ r.0).0).1 in
+    let free = none-reason (reason_of version n (attempt.Split f)) (and_parts (is_valid version n (attempt.Split f)) _ (and_parts (is_valid version n (attempt.Split f) && same_reason (reason_of version n (attempt.Split f)) None) _ r.0).0).1 in
     subst (Inner part.Pieces true) r.1 (refl, tt, tt, made-fuel version n (attempt.Split f) free)
 
 close-gives : (n : Node) (i : ℕ) (j : Inside) → close_row n i ≡ Some j → Inner part.Pieces true j
@@ -158,18 +157,6 @@ opening-settled t u e =
     let f = fits-some (nat_le (size_of (root t)) t.fuel) _ u e in
     let made : Settled t _ = record { waiting = (leb-true (size_of (root t)) t.fuel f.0, tt); fuel = refl; between = tt } in
     subst (Settled t) f.1 made
-
--- ---- places
-abbrev pub cases : (Claim : Part → Type 0) (ps : List Part) → Type 0
-cases Claim [] = Unit {0}
-cases Claim (p ∷ ps) = Claim p × cases Claim ps
-
-pub by_parts : (Claim : Part → Type 0) (ps : List Part) (q : Part) → list_any (λ r. nat_eq (number r) (number q)) ps ≡ true → cases Claim ps → Claim q
-by_parts Claim [] q e c = cc
-by_parts Claim (p ∷ ps) q e c = elim (nat_eq (number p) (number q)) as (λ t. nat_eq (number p) (number q) ≡ t → (t || list_any (λ r. nat_eq (number r) (number q)) ps) ≡ true → Claim q) [
-  | true ↦ λ h _. subst Claim (sym (same_part p q h)) c.0
-  | false ↦ λ _ h. by_parts Claim ps q h c.1
-] refl e
 
 -- ---- lines inside a piece
 abbrev IsInner : LogLine → Type 0

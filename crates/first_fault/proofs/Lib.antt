@@ -1,2 +1,7 @@
+mod Places
 mod Standing
 mod Keeping
+mod Ending
+mod Working
+mod Spelling
+mod Fronts

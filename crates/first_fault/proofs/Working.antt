@@ -36,11 +36,11 @@ use Rattle.proof_log.specs.declared.line.LogLine.TheVariants as line
 use Rattle.proof_log.specs.declared.place.Part.{Part}
 use Rattle.proof_log.specs.declared.place.Part.TheVariants as part
 use Rattle.proof_log.specs.declared.place.Place.{Place}
-use Rattle.proof_log.proofs.Runs.{at}
 use Rattle.log_checker.specs.Fitting as fitting
 use Rattle.log_checker.specs.Fitting.{Work, At, Chaining, Ended, Inside, State, listed, where_fits, in_piece, node_row, node_settled, verdict_row, after}
 use Rattle.log_checker.proofs.Fits.{st, same_verdict-self}
 use Rattle.first_fault.specs.FirstFault.{RootHasFuel, HasRoom}
+use Rattle.first_fault.proofs.Places.{at}
 use Rattle.first_fault.proofs.Standing.{Works, Inner, Shared, InProof, Known, Stands, IsPosing}
 use Rattle.first_fault.proofs.Ending.{Ends, at-end, before, three, IsChain, IsEnd, IsInner, fits-from, here, within, inner, lists, nes-listed, chains}
 
