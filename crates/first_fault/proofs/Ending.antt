@@ -182,29 +182,36 @@ module _ (version fuel : ℕ) (hyps cons : List Polynomial) (n left h c : ℕ) w
       (and_from _ _ (and_from (j == j) _ (eq-eqb j j refl) (eq-eqb f f refl)) (and_from (int_eq r.0 r.0) _ (int_eq-self r.0) (same-self r.1)))
       (same_reason-is _ _ q))
 
+  abbrev Chained : List Bool → List Node → Tally → Part → List Polynomial → (k : ℕ) → List Polynomial → (spare : ℕ) → Type 0
+  Chained path ns t p E k todo spare = Ends (here p false) (within path (listed (Chaining E k todo spare)) ns t)
+
+  -- with less fuel the chain is followed
+  abbrev Later : List Bool → List Node → Tally → List Polynomial → (b : ℕ) → Type 0
+  Later path ns t E b = (j : ℕ) (todo : List Polynomial) (left : ℕ) → left < b → Chained path ns t part.Chain E j todo left
+
   -- a chain is followed to its end, each step for a unit of fuel at least
   pub chains : (b : ℕ) (path : List Bool) (ns : List Node) (t : Tally) → ((e : Ending) → Ends (here part.Pieces true) (within path (listed (Ended [] e)) ns t))
       → (p : Part) → IsChain p → (E : List Polynomial) (k : ℕ) (todo : List Polynomial) (spare : ℕ) → spare < b
-      → Ends (here p false) (within path (listed (Chaining E k todo spare)) ns t)
+      → Chained path ns t p E k todo spare
   chains zero path ns t more p is E k todo spare below = absurd (omega (arith, below))
-  chains (suc b) path ns t more p is E k todo spare below = by (due_of E k todo) refl
+  chains (suc b) path ns t more p is E k todo spare below =
+      by (λ j todo left less. chains b path ns t more part.Chain (inr (inr refl)) E j todo left less) (due_of E k todo) refl
     where
-      stopped : (j f : ℕ) (q : Polynomial) (rest : List Polynomial) → due_of E k todo ≡ chain.Reduce j f q rest → (r : Option Reason)
-          → chain_reason q (item E f) spare ≡ r → Ends (here p false) (within path (listed (Chaining E k todo spare)) ns t)
-      stopped j f q rest e (Some why) g =
+      stopped : Later path ns t E b → (j f : ℕ) (q : Polynomial) (rest : List Polynomial) → due_of E k todo ≡ chain.Reduce j f q rest → (r : Option Reason)
+          → chain_reason q (item E f) spare ≡ r → Chained path ns t p E k todo spare
+      stopped later j f q rest e (Some why) g =
           inner p part.Pieces false true path _ _ ns t (line.Unreduced j why f) (λ _ _. refl) (λ _. tt) (unreduced-goes j why f p is)
           (reads-unreduced E todo k spare j f q rest why e g) (more (Stops why))
-      stopped j f q rest e None g =
+      stopped later j f q rest e None g =
           let r = reduction_of q (item E f) in
           let paid = reason-fuel q (item E f) spare g in
           inner p part.Chain false false path _ _ ns t (line.Chain (reduced j f r)) (λ _ _. refl) (λ _. tt) (chain-goes (reduced j f r) p is)
-          (reads-step E todo k spare j f q rest e g)
-          (chains b path ns t more part.Chain (inr (inr refl)) E j (r.1 ∷ rest) (spare - (1 + length r.1)) (omega (arith, paid, below)))
+          (reads-step E todo k spare j f q rest e g) (later j (r.1 ∷ rest) (spare - (1 + length r.1)) (omega (arith, paid, below)))
 
-      by : (d : Due) → due_of E k todo ≡ d → Ends (here p false) (within path (listed (Chaining E k todo spare)) ns t)
-      by chain.AllZero e =
+      by : Later path ns t E b → (d : Due) → due_of E k todo ≡ d → Chained path ns t p E k todo spare
+      by later chain.AllZero e =
           inner p part.Pieces false true path _ _ ns t line.Proved (λ _ _. refl) (λ _. tt) (proved-goes p is) (reads-proved E todo k spare e) (more Proves)
-      by (chain.Left j q) e =
+      by later (chain.Left j q) e =
           inner p part.Pieces false true path _ _ ns t (line.Remainder j) (λ _ _. refl) (λ _. tt) (remainder-goes j p is)
           (reads-remainder E todo k spare j q e) (more (Remains j q))
-      by (chain.Reduce j f q rest) e = stopped j f q rest e (chain_reason q (item E f) spare) refl
+      by later (chain.Reduce j f q rest) e = stopped later j f q rest e (chain_reason q (item E f) spare) refl

@@ -58,12 +58,13 @@ fit_front s u (l ∷ a) b e = elim (after s l) as (λ o. fitted_from o (a ++ b) 
 stands-on : (names : List VarName) (s r : Place) (t v : State) (ls : List LogLine) → ArePosing names ls → Stands s t → run s ls ≡ Some r → fitted t ls ≡ Some v → Stands r v
 unfolding run fitted
 stands-on names s r t v [] p k g f = subst (λ x. Stands x v) (same_Some s r g) (subst (Stands s) (same_Some t v f) k)
-stands-on names s r t v (l ∷ ls) p k g f = by (goes s l) refl (after t l) refl g f
+stands-on names s r t v (l ∷ ls) p k g f = by (λ x y h a b. stands-on (names_after names l) x r y v ls p.1 h a b) (goes s l) refl (after t l) refl g f
   where
-    by : (o : Option Place) → goes s l ≡ o → (q : Option State) → after t l ≡ q → run_from o ls ≡ Some r → fitted_from q ls ≡ Some v → Stands r v
-    by None a q b g f = cc
-    by (Some x) a None b g f = cc
-    by (Some x) a (Some y) b g f = stands-on (names_after names l) x r y v ls p.1 (keeps s x t y names l p.0 (stepped s l x a) k b) g f
+    by : ((x : Place) (y : State) → Stands x y → run x ls ≡ Some r → fitted y ls ≡ Some v → Stands r v)
+        → (o : Option Place) → goes s l ≡ o → (q : Option State) → after t l ≡ q → run_from o ls ≡ Some r → fitted_from q ls ≡ Some v → Stands r v
+    by later None a q b g f = cc
+    by later (Some x) a None b g f = cc
+    by later (Some x) a (Some y) b g f = later x y (keeps s x t y names l p.0 (stepped s l x a) k b) g f
 
 -- ---- lines that fit begin an accepted log
 completed : (lines : List LogLine) (r : Place) (t : State) → ArePosing [] lines → run start lines ≡ Some r → fitted begin lines ≡ Some t → Ends r t → BeginAccepted lines
@@ -180,12 +181,13 @@ module _ (s r : Place) (t v : State) (d : Doomed s t) where
 never-done : (ls : List LogLine) (s r : Place) (t v : State) → Doomed s t → run s ls ≡ Some r → r.part ≡ part.Done → fitted t ls ≡ Some v → ⊥
 unfolding run fitted
 never-done [] s r t v d g done f = subst (λ (p : Part). IsTelling p) (ap (λ (x : Place). x.part) (same_Some s r g) ∙ done) d.telling
-never-done (l ∷ ls) s r t v d g done f = by (goes s l) refl (after t l) refl g f
+never-done (l ∷ ls) s r t v d g done f = by (λ x y h a b. never-done ls x r y v h a done b) (goes s l) refl (after t l) refl g f
   where
-    by : (o : Option Place) → goes s l ≡ o → (q : Option State) → after t l ≡ q → run_from o ls ≡ Some r → fitted_from q ls ≡ Some v → ⊥
-    by None a q b g f = cc
-    by (Some x) a None b g f = cc
-    by (Some x) a (Some y) b g f = never-done ls x r y v (doomed s x t y d l (stepped s l x a) b) g done f
+    by : ((x : Place) (y : State) → Doomed x y → run x ls ≡ Some r → fitted y ls ≡ Some v → ⊥)
+        → (o : Option Place) → goes s l ≡ o → (q : Option State) → after t l ≡ q → run_from o ls ≡ Some r → fitted_from q ls ≡ Some v → ⊥
+    by later None a q b g f = cc
+    by later (Some x) a None b g f = cc
+    by later (Some x) a (Some y) b g f = later x y (doomed s x t y d l (stepped s l x a) b) g f
 
 -- a root is being told only in a problem
 telling-at : (p : Part) (n left c : ℕ) (w : Bool) (t : State) → IsOpening t.part → Known p n left c w t → IsTelling p
@@ -273,10 +275,13 @@ last t = refl
 
 module _ (front : List LogLine) (l : LogLine) (w : AreLetThrough (front ++ l ∷ [])) where
   rejected : IsUnfit front l → (BeginAccepted front ⊎ Overfills front) × (BeginAccepted (front ++ l ∷ []) → ⊥)
-  rejected u = (elim (has-room u.0 u.0.part) [
-    | inl h ↦ inl (fit-begins front (let-through front l w) (record { state = u.0; fit = u.1; room = h }))
-    | inr h ↦ inr (u.0, u.1, h)
-  ], unfit-begins-none front l u)
+  rejected u = (
+    elim (has-room u.0 u.0.part) [
+      | inl h ↦ inl (fit-begins front (let-through front l w) (record { state = u.0; fit = u.1; room = h }))
+      | inr h ↦ inr (u.0, u.1, h)
+    ],
+    unfit-begins-none front l u,
+  )
 
   fitted_on : (s : State) → fitted begin front ≡ Some s → (o : Option State) → after s l ≡ o → (BeginAccepted (front ++ l ∷ []) → ⊥)
       → IsUnfit front l ⊎ Overfills (front ++ l ∷ [])

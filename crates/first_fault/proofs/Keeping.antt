@@ -368,29 +368,53 @@ module _ (s r : Place) (t v : State) where
       arrive d.counts (record s { whole = false }) part.Steps v d.behind q.1 refl
       (record { shared = again _ _ _ v.fuel c.shared (n.2.fuel ∙ n.1.fuel); waiting = n.2.waiting; inside = n.2.inside })
   keeps names (line.Drop i) p d k e =
-      from (Stands r v) (line.Drop i) d k ((λ b. moves (line.Drop i) part.Steps part.Steps s.whole d.counts (λ _ _. refl) d.behind (same_Some _ _ d.count) (λ u h. h)
-      (λ x y h. drop-in t.version t.cons x y i s.whole h) e b), tt)
+      from (Stands r v) (line.Drop i) d k (
+        (λ b. moves (line.Drop i) part.Steps part.Steps s.whole d.counts (λ _ _. refl) d.behind (same_Some _ _ d.count) (λ u h. h)
+            (λ x y h. drop-in t.version t.cons x y i s.whole h) e b),
+        tt,
+      )
   keeps names (line.Red g f m q) p d k e =
-      from (Stands r v) (line.Red g f m q) d k ((λ b. moves (line.Red g f m q) part.Steps part.Steps s.whole d.counts (λ _ _. refl) d.behind (same_Some _ _ d.count) (λ u h. h)
-      (λ x y h. red-in t.version t.cons x y g f m q s.whole h) e b), tt)
+      from (Stands r v) (line.Red g f m q) d k (
+        (λ b. moves (line.Red g f m q) part.Steps part.Steps s.whole d.counts (λ _ _. refl) d.behind (same_Some _ _ d.count) (λ u h. h)
+            (λ x y h. red-in t.version t.cons x y g f m q s.whole h) e b),
+        tt,
+      )
   keeps names (line.Tail f q) p d k e =
-      from (Stands r v) (line.Tail f q) d k ((λ b. moves (line.Tail f q) part.Steps part.Steps s.whole d.counts (λ _ _. refl) d.behind (same_Some _ _ d.count) (λ u h. h)
-      (λ x y h. tail-in t.version t.cons x y f q s.whole h) e b), tt)
+      from (Stands r v) (line.Tail f q) d k (
+        (λ b. moves (line.Tail f q) part.Steps part.Steps s.whole d.counts (λ _ _. refl) d.behind (same_Some _ _ d.count) (λ u h. h)
+            (λ x y h. tail-in t.version t.cons x y f q s.whole h) e b),
+        tt,
+      )
   keeps names (line.Split f q) p d k e =
-      from (Stands r v) (line.Split f q) d k ((λ b. moves (line.Split f q) part.Steps part.Pieces true d.counts (λ _ _. refl) d.behind (same_Some _ _ d.count) (λ u h. h)
-      (λ x y h. split-in t.version t.cons x y f q s.whole h) e b), tt)
+      from (Stands r v) (line.Split f q) d k (
+        (λ b. moves (line.Split f q) part.Steps part.Pieces true d.counts (λ _ _. refl) d.behind (same_Some _ _ d.count) (λ u h. h)
+            (λ x y h. split-in t.version t.cons x y f q s.whole h) e b),
+        tt,
+      )
   keeps names (line.Close i) p d k e =
-      from (Stands r v) (line.Close i) d k ((λ b. moves (line.Close i) part.Steps part.Pieces true d.counts (λ _ _. refl) d.behind (same_Some _ _ d.count) (λ u h. h)
-      (λ x y h. close-in t.version t.cons x y i s.whole h) e b), tt)
+      from (Stands r v) (line.Close i) d k (
+        (λ b. moves (line.Close i) part.Steps part.Pieces true d.counts (λ _ _. refl) d.behind (same_Some _ _ d.count) (λ u h. h)
+            (λ x y h. close-in t.version t.cons x y i s.whole h) e b),
+        tt,
+      )
   keeps names (line.Clash i j) p d k e =
-      from (Stands r v) (line.Clash i j) d k ((λ b. moves (line.Clash i j) part.Steps part.Pieces true d.counts (λ _ _. refl) d.behind (same_Some _ _ d.count) (λ u h. h)
-      (λ x y h. clash-in t.version t.cons x y i j s.whole h) e b), tt)
+      from (Stands r v) (line.Clash i j) d k (
+        (λ b. moves (line.Clash i j) part.Steps part.Pieces true d.counts (λ _ _. refl) d.behind (same_Some _ _ d.count) (λ u h. h)
+            (λ x y h. clash-in t.version t.cons x y i j s.whole h) e b),
+        tt,
+      )
   keeps names line.System p d k e =
-      from (Stands r v) line.System d k ((λ b. moves line.System part.Steps part.Eqs false d.counts (λ _ _. refl) d.behind (same_Some _ _ d.count) (λ u h. h)
-      (λ x y h. system-in t.version t.cons x y s.whole h) e b), tt)
+      from (Stands r v) line.System d k (
+        (λ b. moves line.System part.Steps part.Eqs false d.counts (λ _ _. refl) d.behind (same_Some _ _ d.count) (λ u h. h)
+            (λ x y h. system-in t.version t.cons x y s.whole h) e b),
+        tt,
+      )
   keeps names (line.Open why what) p d k e =
-      from (Stands r v) (line.Open why what) d k ((λ b. moves (line.Open why what) part.Steps part.Eqs true d.counts (λ _ _. refl) d.behind (same_Some _ _ d.count) (λ u h. h)
-      (λ x y h. open-in t.version t.cons x y why what s.whole h) e b), tt)
+      from (Stands r v) (line.Open why what) d k (
+        (λ b. moves (line.Open why what) part.Steps part.Eqs true d.counts (λ _ _. refl) d.behind (same_Some _ _ d.count) (λ u h. h)
+            (λ x y h. open-in t.version t.cons x y why what s.whole h) e b),
+        tt,
+      )
   keeps names (line.Chain c) p d k e =
       let f = failed s.whole (record s { whole = false }) d.counts d.count in
       let go = λ (q : Part) (b : InProof q s.proofs s.left s.whole t). moves (line.Chain c) q part.Chain false d.counts (λ _ _. refl) d.behind f (λ u h. h)
@@ -412,8 +436,11 @@ module _ (s r : Place) (t v : State) where
       (λ x y _. unreduced-in t.version t.cons x y i why g) e b in
       from (Stands r v) (line.Unreduced i why g) d k (go part.Eqs, (go part.Nes, (go part.Chain, tt)))
   keeps names (line.Eq q) p d k e =
-      from (Stands r v) (line.Eq q) d k ((λ b. moves (line.Eq q) part.Eqs part.Eqs s.whole d.counts (λ _ _. refl) d.behind (same_Some _ _ d.count) (λ u h. h)
-      (λ x y h. eq-in t.version t.cons x y q s.whole h) e b), tt)
+      from (Stands r v) (line.Eq q) d k (
+        (λ b. moves (line.Eq q) part.Eqs part.Eqs s.whole d.counts (λ _ _. refl) d.behind (same_Some _ _ d.count) (λ u h. h)
+            (λ x y h. eq-in t.version t.cons x y q s.whole h) e b),
+        tt,
+      )
   keeps names (line.Ne q) p d k e =
       from (Stands r v) (line.Ne q) d k (
         (λ b. moves (line.Ne q) part.Eqs part.Nes s.whole d.counts (λ _ _. refl) d.behind (same_Some _ _ d.count) (λ u h. h) (λ x y h. ne-in t.version t.cons x y q s.whole h) e b),

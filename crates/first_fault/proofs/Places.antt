@@ -50,7 +50,6 @@ by_parts Claim (p ∷ ps) q e c = elim (nat_eq (number p) (number q)) as (λ t. 
   | false ↦ λ _ h. by_parts Claim ps q h c.1
 ] refl e
 
-
 -- ---- one step
 pub record Stepped (s : Place) (l : LogLine) (t : Place) : Type 0 where
   pub stands_here : stands (row_of l).word s.part ≡ true

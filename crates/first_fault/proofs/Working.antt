@@ -170,7 +170,7 @@ module _ (version fuel : ℕ) (hyps cons : List Polynomial) (n left h c : ℕ)
 
     -- behind a leaf
     leaf : (p : Part) → IsEnd p → (e : Ending) → total_fuel ns ≤ k → Ends (at_ p true) (in_ path (listed (Ended [] e)) ns t)
-    leaf p is e few = rest k nodes p is path [] ns e t tt b few
+    leaf p is e few = rest k nodes p is path [] ns e t tt b (omega (arith, few))
 
     end-part : (p : Part) → (p ≡ part.Eqs) ⊎ (p ≡ part.Nes) → IsEnd p
     end-part p (inl e) = inl e
