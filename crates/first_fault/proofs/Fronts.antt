@@ -88,7 +88,7 @@ front-run lines g =
     let through = run_log g.version g.log g.fits.proofs in
     run_front start through.to lines g.more (ap (run start) (sym g.begins) ∙ through.runs)
 
-fit-begins : (lines : List LogLine) → AreLetThrough lines → Fit lines → BeginAccepted lines
+pub fit-begins : (lines : List LogLine) → AreLetThrough lines → Fit lines → BeginAccepted lines
 fit-begins lines w f =
     let p = all-posing [] lines w.spelled in
     let g = front-run lines w.grammar in
@@ -245,7 +245,7 @@ pub fitting-begins : FittingBegins
 fitting-begins lines w = ((λ f. fit-begins lines w f), (λ b. begun-fits lines b))
 
 -- ---- one line more
-let-through : (front : List LogLine) (l : LogLine) → AreLetThrough (front ++ l ∷ []) → AreLetThrough front
+pub let-through : (front : List LogLine) (l : LogLine) → AreLetThrough (front ++ l ∷ []) → AreLetThrough front
 let-through front l w = record { spelled = lines_front [] front (l ∷ []) w.spelled; grammar = front_of_front front l w.grammar }
 
 one_fits : (s : State) (l : LogLine) → fitted s (l ∷ []) ≡ fitted_from (after s l) []
@@ -253,7 +253,7 @@ unfolding fitted
 one_fits s l = refl
 
 -- the state behind a front that fits, or too little fuel for the root
-has-room : (s : State) (q : fitting.Part) → RootHasFuel s q ⊎ (RootHasFuel s q → ⊥)
+pub has-room : (s : State) (q : fitting.Part) → RootHasFuel s q ⊎ (RootHasFuel s q → ⊥)
 has-room s fitting.Opening = by (nat_le (size_of (root s)) s.fuel) refl
   where
     by : (b : Bool) → nat_le (size_of (root s)) s.fuel ≡ b → (size_of (root s) ≤ s.fuel) ⊎ (size_of (root s) ≤ s.fuel → ⊥)

@@ -5,3 +5,4 @@ mod Ending
 mod Working
 mod Spelling
 mod Fronts
+mod Texts

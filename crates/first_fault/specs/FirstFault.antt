@@ -1,12 +1,15 @@
 -- The place of a fault, without the table of fitting lines: which lines begin those of an accepted log.
-use Rattle.std.specs.Prelude.{◌≡◌, ◌↔◌, ◌≤◌, ◌⊎◌, ℕ, List, [], ◌∷◌, ◌++◌, Some, None}
+use Rattle.std.specs.Prelude.{◌≡◌, ◌↔◌, ◌+◌, ◌≤◌, ◌⊎◌, ℕ, List, [], ◌∷◌, ◌++◌, length, Some, None}
+use Rattle.desk_io.specs.Characters.{line_feed}
 use Rattle.proof_steps.specs.Rules.{size_of}
 use Rattle.proof_log.specs.Accepted.{IsAccepted}
-use Rattle.proof_log.specs.Grammar.{IsFront, IsLog}
+use Rattle.proof_log.specs.Grammar.{IsFront, IsLog, IsUnended}
 use Rattle.proof_log.specs.Lines.{log_lines}
-use Rattle.proof_log.specs.Text.{AreLines}
+use Rattle.proof_log.specs.Text.{text_of, AreLines}
 use Rattle.proof_log.specs.declared.line.LogLine.{LogLine}
+use Rattle.proof_log.specs.declared.line.LineWord.{LineWord}
 use Rattle.proof_log.specs.declared.log.Proof.{Proof}
+use Rattle.log_checker.specs.Answers.{IsAcceptedText, IsMalformed, IsRejected}
 use Rattle.log_checker.specs.Fitting.{Part, Opening, Within, Between, State, begin, root, after, fitted}
 
 -- The lines begin those of an accepted log.
@@ -64,3 +67,31 @@ RejectedIsFirst =
     (front : List LogLine) (line : LogLine) → AreLetThrough (front ++ line ∷ [])
     → (IsUnfit front line → (BeginAccepted front ⊎ Overfills front) × (BeginAccepted (front ++ line ∷ []) → ⊥))
     × (IsFirst front line → IsUnfit front line ⊎ Overfills (front ++ line ∷ []))
+
+-- ---- and of bytes
+
+-- The bytes begin the text of an accepted log.
+abbrev pub BeginText : List ℕ → Type 0
+BeginText bytes = (more : List ℕ) × (log : List Proof) × IsAcceptedText log (bytes ++ more)
+
+-- With this line, which ends here, no text of an accepted log begins. Or the bytes end inside it, and are no such text.
+abbrev pub NoneGoOn : (before line rest : List ℕ) → Type 0
+NoneGoOn before line [] = (log : List Proof) → IsAcceptedText log (before ++ line) → ⊥
+NoneGoOn before line (c ∷ behind) = (c ≡ line_feed) × (BeginText (before ++ (line ++ line_feed ∷ [])) → ⊥)
+
+-- The line of a number: the lines before it begin the text of an accepted log, and together with it they begin none.
+pub record IsFirstFault (n : ℕ) (bytes : List ℕ) : Type 0 where
+  pub front : List LogLine
+  pub line : List ℕ
+  pub rest : List ℕ
+  pub parts : bytes ≡ text_of [] front ++ (line ++ rest)
+  pub number : n ≡ length front + 1
+  pub one_line : IsUnended line
+  pub before : BeginText (text_of [] front) ⊎ Overfills front
+  pub none : NoneGoOn (text_of [] front) line rest
+
+-- A malformed line and a rejected line are such.
+abbrev pub FaultsAreFirst : Type 0
+FaultsAreFirst =
+    (n : ℕ) (bytes : List ℕ)
+    → (IsMalformed n bytes → IsFirstFault n bytes) × ((w : LineWord) → IsRejected n w bytes → IsFirstFault n bytes)

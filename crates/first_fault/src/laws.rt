@@ -1,4 +1,4 @@
-ghost use Rattle.first_fault.specs.FirstFault.{FittingBegins, RejectedIsFirst};
+ghost use Rattle.first_fault.specs.FirstFault.{FaultsAreFirst, FittingBegins, RejectedIsFirst};
 
 /// Lines that the grammar lets through begin those of an accepted log exactly where each fits and the root that is being
 /// told has fuel for its size. So the line that a check rejects is the first fault: the lines before it begin those of an
@@ -7,4 +7,5 @@ ghost use Rattle.first_fault.specs.FirstFault.{FittingBegins, RejectedIsFirst};
 pub fn first_fault_is_rejected()
     ensures fronts { FittingBegins }
     ensures rejected { RejectedIsFirst }
+    ensures bytes { FaultsAreFirst }
 {}
