@@ -1,5 +1,5 @@
 -- Lines fit, and leave the root room, exactly where they begin an accepted log.
-use Rattle.std.proofs.Common.{◌≡◌, ℕ, ◌+◌, ◌<◌, ◌≤◌, List, [], ◌∷◌, ◌++◌, Bool, true, false, ◌⊎◌, inl, inr, refl, sym, ◌∙◌, ap, subst, arith, Option, Some, None, append_assoc}
+use Rattle.std.proofs.Common.{◌≡◌, ℕ, ◌<◌, ◌≤◌, List, [], ◌∷◌, ◌++◌, Bool, true, false, ◌⊎◌, inl, inr, refl, sym, ◌∙◌, ap, subst, arith, Option, Some, None, append_assoc}
 use Rattle.std.specs.Prelude.{nat_le}
 use Rattle.std.proofs.lemmas.Bool.{leb-true, leb-false}
 use Rattle.std.proofs.lemmas.Option.{same_Some}
@@ -8,7 +8,6 @@ use Rattle.poly_model.specs.declared.vars.VarName.{VarName}
 use Rattle.proof_steps.specs.Rules.{sizes, size_of}
 use Rattle.verdicts.specs.declared.verdict.Verdict.{Verdict}
 use Rattle.proof_log.specs.Grammar.{IsFront}
-use Rattle.proof_log.specs.Lines.{log_lines}
 use Rattle.proof_log.specs.Places.{parts_before, goes, start, run}
 use Rattle.proof_log.specs.Text.{row_of, names_after, AreLines}
 use Rattle.proof_log.specs.declared.line.LogLine.{LogLine}
@@ -20,7 +19,7 @@ use Rattle.proof_log.proofs.Logs.{run_log, run_append, whole_is}
 use Rattle.log_checker.specs.Fitting as fitting
 use Rattle.log_checker.specs.Fitting.{State, begin, root, where_fits, settled, node_settled, verdict_settled, inside_row, by_part, after, fitted}
 use Rattle.log_checker.proofs.Fits.{fitted_from, log_accepted, log_goes}
-use Rattle.first_fault.specs.FirstFault.{BeginAccepted, RootHasFuel, HasRoom, Fit, AreLetThrough, IsUnfit, FittingBegins, IsFirst, Overfills, RejectedIsFirst}
+use Rattle.first_fault.specs.FirstFault.{BeginAccepted, RootHasFuel, Fit, AreLetThrough, IsUnfit, FittingBegins, IsFirst, Overfills, RejectedIsFirst}
 use Rattle.first_fault.proofs.Standing.{IsBetween, IsOpening, IsWithin, Known, Stands, ArePosing}
 use Rattle.first_fault.proofs.Places.{cases, by_parts, Stepped, stepped, run_from}
 use Rattle.first_fault.proofs.Keeping.{fits-some, keeps}

@@ -1,5 +1,5 @@
 -- What is known is known behind each line more that fits.
-use Rattle.std.proofs.Common.{◌≡◌, ℕ, ◌+◌, ◌-◌, ◌/◌, ◌<◌, ◌≤◌, List, [], ◌∷◌, ◌++◌, Bool, true, false, ◌&&◌, ◌==◌, nat_lt, refl, sym, ◌∙◌, ap, subst, arith, Option, Some, None}
+use Rattle.std.proofs.Common.{◌≡◌, ℕ, ◌+◌, ◌-◌, ◌/◌, ◌≤◌, List, [], ◌∷◌, ◌++◌, Bool, true, false, ◌&&◌, ◌==◌, nat_lt, refl, sym, ◌∙◌, subst, arith, Option, Some, None}
 use Rattle.std.specs.Prelude.{ℤ, nat_le, if◌then◌else◌}
 use Rattle.std.proofs.lemmas.Bool.{and_parts, leb-true}
 use Rattle.std.proofs.lemmas.Option.{same_Some}
@@ -26,7 +26,6 @@ use Rattle.verdicts.specs.Tallies.{Ending, no_tally}
 use Rattle.verdicts.specs.declared.verdict.Verdict.{Verdict}
 use Rattle.proof_log.specs.Places.{parts_before}
 use Rattle.proof_log.specs.Text.{row_of}
-use Rattle.proof_log.specs.declared.limits.TheConstants.{MOST_PROOFS}
 use Rattle.proof_log.specs.declared.line.LogLine.{LogLine}
 use Rattle.proof_log.specs.declared.line.LogLine.TheVariants as line
 use Rattle.proof_log.specs.declared.place.Part.{Part}
@@ -35,7 +34,7 @@ use Rattle.proof_log.specs.declared.place.Place.{Place}
 use Rattle.log_checker.specs.Fitting as fitting
 use Rattle.log_checker.specs.Fitting.{Work, At, Chaining, Ended, Inside, State, listed, where_fits, where_whole, by_node, at_node, by_chain, in_chain, step_row, split_row, close_row, clash_row, system_row, open_row, chain_row, proved_row, remainder_row, unreduced_row, eq_row, ne_row, in_piece, end_of_work, end_of, root, behind, settled, node_row, node_settled, verdict_row, verdict_settled, inside_row, by_part, after}
 use Rattle.first_fault.proofs.Places.{cases, by_parts, Stepped}
-use Rattle.first_fault.proofs.Standing.{IsEmpty, IsNode, Works, Inner, IsBetween, IsOpening, IsWithin, Shared, InProof, Known, Stands, IsPosing}
+use Rattle.first_fault.proofs.Standing.{IsNode, Works, Inner, IsBetween, IsOpening, IsWithin, Shared, InProof, Known, Stands, IsPosing}
 
 -- ---- what a row gives
 pub fits-some : {A : Type 0} (b : Bool) (x y : A) → where_fits b x ≡ Some y → (b ≡ true) × (x ≡ y)

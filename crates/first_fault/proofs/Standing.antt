@@ -6,7 +6,6 @@ use Rattle.poly_model.specs.Polynomial.{Polynomial}
 use Rattle.poly_model.specs.declared.limits.TheConstants.{MOST_FUEL}
 use Rattle.poly_model.specs.declared.vars.VarName.{VarName}
 use Rattle.proof_steps.specs.Rules.{size_of}
-use Rattle.proof_steps.specs.declared.piece.Node.{Node}
 use Rattle.tree_laws.specs.Costs.{HaveFuel}
 use Rattle.proof_log.specs.Text.{FitsPoly, names_after}
 use Rattle.proof_log.specs.declared.limits.TheConstants.{MOST_PROOFS, VERSION}

@@ -1,18 +1,17 @@
 -- What is found of bytes names their first line with which no text of an accepted log begins.
-use Rattle.std.proofs.Common.{◌≡◌, ℕ, List, [], ◌∷◌, ◌++◌, ◌⊎◌, inl, inr, true, refl, sym, ◌∙◌, ap, subst, append_assoc, append-nil, Option, Some, None}
+use Rattle.std.proofs.Common.{◌≡◌, ℕ, List, [], ◌∷◌, ◌++◌, ◌⊎◌, inl, inr, true, refl, sym, ◌∙◌, ap, subst, append_assoc, append-nil, Some}
 use Rattle.poly_model.specs.Names.{are_variables}
 use Rattle.poly_model.specs.declared.vars.VarName.{VarName}
-use Rattle.proof_log.specs.Grammar.{names_behind, Begins, Refuses, EndsEarly, IsUnended}
-use Rattle.proof_log.specs.Lines.{log_lines}
+use Rattle.proof_log.specs.Grammar.{names_behind, Begins, Refuses, EndsEarly}
 use Rattle.proof_log.specs.Text.{IsLine, line_text, names_after, text_of, AreLines}
 use Rattle.proof_log.specs.declared.line.LineWord.{LineWord}
 use Rattle.proof_log.specs.declared.line.LogLine.{LogLine}
 use Rattle.proof_log.specs.declared.log.Proof.{Proof}
 use Rattle.proof_log.proofs.OneText.{line-plain, names-kept}
-use Rattle.log_checker.specs.Answers.{Finding, Accepted, Malformed, Rejected, IsAcceptedText, IsMalformed, IsRejected}
+use Rattle.log_checker.specs.Answers.{Accepted, Malformed, Rejected, IsAcceptedText, IsMalformed, IsRejected}
 use Rattle.log_checker.specs.Fitting.{State, begin, fitted}
 use Rattle.log_checker.proofs.Exact.{all_lines, one_finding}
-use Rattle.first_fault.specs.FirstFault.{BeginAccepted, AreLetThrough, HasRoom, BeginText, NoneGoOn, Overfills, IsFirstFault, FaultsAreFirst}
+use Rattle.first_fault.specs.FirstFault.{BeginAccepted, AreLetThrough, BeginText, Overfills, IsFirstFault, FaultsAreFirst}
 use Rattle.first_fault.proofs.Fronts.{fit-begins, has-room, let-through}
 
 -- ---- texts

@@ -1,8 +1,7 @@
 -- Lines with which a log goes on to its end: the work on nodes, and the problems that are left.
-use Rattle.std.proofs.Common.{◌≡◌, ℕ, ◌+◌, ◌-◌, ◌*◌, ◌/◌, ◌<◌, ◌≤◌, zero, suc, List, [], ◌∷◌, ◌++◌, length, Bool, true, false, inl, inr, ◌⊎◌, ◌&&◌, ◌==◌, nat_eq, nat_lt, refl, sym, ◌∙◌, ap, subst, arith, Option, Some, None}
-use Rattle.std.specs.Prelude.{nat_le}
+use Rattle.std.proofs.Common.{◌≡◌, ℕ, ◌+◌, ◌-◌, ◌/◌, ◌<◌, ◌≤◌, zero, suc, List, [], ◌∷◌, ◌++◌, Bool, true, false, inl, inr, ◌⊎◌, nat_eq, nat_lt, refl, sym, ◌∙◌, ap, subst, arith, Option, Some, None}
 use Rattle.std.specs.Ordering.{int_eq}
-use Rattle.std.proofs.lemmas.Bool.{and_from, eq-eqb, le-leb}
+use Rattle.std.proofs.lemmas.Bool.{and_from, le-leb}
 use Rattle.std.proofs.lemmas.Bool.Decides.{nat_tests}
 use Rattle.std.proofs.lemmas.Nat.{le-div}
 use Rattle.poly_model.specs.Equality.{same-self}
@@ -12,7 +11,7 @@ use Rattle.poly_model.specs.declared.limits.Reason.{Reason}
 use Rattle.poly_model.specs.declared.limits.TheConstants.{MOST_FUEL}
 use Rattle.poly_model.specs.declared.vars.VarName.{VarName}
 use Rattle.proof_steps.specs.Numbers.{item, has, replaced}
-use Rattle.proof_steps.specs.Rules.{is_valid, is_triangular, reason_of, made, attempt_of, tells_result, stepped, size_of, sizes, plus_child, minus_child}
+use Rattle.proof_steps.specs.Rules.{is_valid, is_triangular, reason_of, made, attempt_of, tells_result, stepped, size_of, sizes, plus_child}
 use Rattle.proof_steps.specs.Work as work
 use Rattle.proof_steps.specs.Work.{Next, next}
 use Rattle.proof_steps.specs.declared.piece.Node.{Node}
@@ -31,7 +30,6 @@ use Rattle.verdicts.specs.Tallies.{Ending, Parts, Empty, Stops, Tally, no_tally,
 use Rattle.verdicts.specs.declared.verdict.Verdict.{Verdict}
 use Rattle.proof_log.specs.Places.{goes}
 use Rattle.proof_log.specs.Lines.{step_line}
-use Rattle.proof_log.specs.declared.line.LogLine.{LogLine}
 use Rattle.proof_log.specs.declared.line.LogLine.TheVariants as line
 use Rattle.proof_log.specs.declared.place.Part.{Part}
 use Rattle.proof_log.specs.declared.place.Part.TheVariants as part
