@@ -24,8 +24,8 @@ use Rattle.proof_log.specs.declared.place.Part.TheVariants as part
 use Rattle.proof_log.specs.declared.place.Place.{Place}
 use Rattle.log_checker.specs.Fitting as fitting
 use Rattle.log_checker.specs.Fitting.{Work, Chaining, Ended, Inside, State, listed, where_fits, proved_row, remainder_row, unreduced_row, chain_row, in_piece, inside_row, by_part, after, fitted}
-use Rattle.log_checker.proofs.Fits.{fitted_from, st}
-use Rattle.first_fault.proofs.Places.{at, one}
+use Rattle.log_checker.proofs.Fits.{fitted_from}
+use Rattle.first_fault.proofs.Places.{one}
 use Rattle.first_fault.proofs.Standing.{IsPosing, ArePosing}
 
 -- Lines that stand well and fit from here to the end of a log.
@@ -76,16 +76,17 @@ IsInner l = (s : State) (p : fitting.Part) → by_part s l p ≡ inside_row s l 
 pub fits-from : {A : Type 0} (b : Bool) (a : A) → b ≡ true → where_fits b a ≡ Some a
 fits-from b a e = ap (λ c. where_fits c a) e
 
-module _ (version fuel : ℕ) (hyps cons : List Polynomial) (n left h c : ℕ) where
+-- What the grammar and the table know of the proof that is told.
+module _ (s : Place) (o : State) where
   abbrev pub here : Part → Bool → Place
-  here p w = at p n left h c w
+  here p w = record s { part = p; whole = w }
 
   abbrev pub within : List Bool → Inside → List Node → Tally → State
-  within path i ns t = st version fuel hyps cons (fitting.Within path i) ns t
+  within path i ns t = record o { part = fitting.Within path i; waiting = ns; tally = t }
 
   -- a line inside a piece
   pub inner : (p q : Part) (w v : Bool) (path : List Bool) (i j : Inside) (ns : List Node) (t : Tally) (l : LogLine) → IsInner l
-      → ((names : List VarName) → IsPosing names l) → goes (here p w) l ≡ Some (here q v) → in_piece version cons i l ≡ Some j
+      → ((names : List VarName) → IsPosing names l) → goes (here p w) l ≡ Some (here q v) → in_piece o.version o.cons i l ≡ Some j
       → Ends (here q v) (within path j ns t) → Ends (here p w) (within path i ns t)
   unfolding after
   inner p q w v path i j ns t l is pose g e more =
@@ -130,9 +131,9 @@ module _ (version fuel : ℕ) (hyps cons : List Polynomial) (n left h c : ℕ) w
   abbrev Goes : LogLine → Part → Bool → Part → Type 0
   Goes l q v p = goes (here p false) l ≡ Some (here q v)
 
-  chain-goes : (s : ChainStep) (p : Part) → IsChain p → Goes (line.Chain s) part.Chain false p
+  chain-goes : (x : ChainStep) (p : Part) → IsChain p → Goes (line.Chain x) part.Chain false p
   unfolding goes
-  chain-goes s = three (Goes (line.Chain s) part.Chain false) part.Eqs part.Nes part.Chain refl refl refl
+  chain-goes x = three (Goes (line.Chain x) part.Chain false) part.Eqs part.Nes part.Chain refl refl refl
 
   proved-goes : (p : Part) → IsChain p → Goes line.Proved part.Pieces true p
   unfolding goes
@@ -148,18 +149,18 @@ module _ (version fuel : ℕ) (hyps cons : List Polynomial) (n left h c : ℕ) w
 
   -- what the table has at the end of a chain
   reads-proved : (E todo : List Polynomial) (k spare : ℕ) → due_of E k todo ≡ chain.AllZero
-      → in_piece version cons (listed (Chaining E k todo spare)) line.Proved ≡ Some (listed (Ended [] Proves))
+      → in_piece o.version o.cons (listed (Chaining E k todo spare)) line.Proved ≡ Some (listed (Ended [] Proves))
   unfolding in_piece
   reads-proved E todo k spare e = ap proved_row e
 
   reads-remainder : (E todo : List Polynomial) (k spare j : ℕ) (p : Polynomial) → due_of E k todo ≡ chain.Left j p
-      → in_piece version cons (listed (Chaining E k todo spare)) (line.Remainder j) ≡ Some (listed (Ended [] (Remains j p)))
+      → in_piece o.version o.cons (listed (Chaining E k todo spare)) (line.Remainder j) ≡ Some (listed (Ended [] (Remains j p)))
   unfolding in_piece
   reads-remainder E todo k spare j p e = ap (remainder_row j) e ∙ fits-from (j == j) _ (eq-eqb j j refl)
 
   reads-unreduced : (E todo : List Polynomial) (k spare j f : ℕ) (p : Polynomial) (rest : List Polynomial) (why : Reason) → due_of E k todo ≡ chain.Reduce j f p rest
       → chain_reason p (item E f) spare ≡ Some why
-      → in_piece version cons (listed (Chaining E k todo spare)) (line.Unreduced j why f) ≡ Some (listed (Ended [] (Stops why)))
+      → in_piece o.version o.cons (listed (Chaining E k todo spare)) (line.Unreduced j why f) ≡ Some (listed (Ended [] (Stops why)))
   unfolding in_piece
   reads-unreduced E todo k spare j f p rest why e q =
       ap (unreduced_row E spare j why f) e
@@ -170,7 +171,7 @@ module _ (version fuel : ℕ) (hyps cons : List Polynomial) (n left h c : ℕ) w
 
   reads-step : (E todo : List Polynomial) (k spare j f : ℕ) (p : Polynomial) (rest : List Polynomial) → due_of E k todo ≡ chain.Reduce j f p rest
       → chain_reason p (item E f) spare ≡ None
-      → in_piece version cons (listed (Chaining E k todo spare)) (line.Chain (reduced j f (reduction_of p (item E f))))
+      → in_piece o.version o.cons (listed (Chaining E k todo spare)) (line.Chain (reduced j f (reduction_of p (item E f))))
       ≡ Some (listed (Chaining E j ((reduction_of p (item E f)).1 ∷ rest) (spare - (1 + length (reduction_of p (item E f)).1))))
   unfolding in_piece
   reads-step E todo k spare j f p rest e q =

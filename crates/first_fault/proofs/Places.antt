@@ -68,9 +68,6 @@ stepped s l t e = elim (stands (row_of l).word s.part) as (λ b. stands (row_of 
 ] refl e
 
 -- ---- lines
-abbrev pub at : Part → ℕ → ℕ → ℕ → ℕ → Bool → Place
-at p n left h c w = record { part = p; proofs = n; left = left; hyps = h; cons = c; whole = w }
-
 abbrev pub run_from : Option Place → List LogLine → Option Place
 run_from o ls = elim o [ None ↦ None | Some t ↦ run t ls ]
 
