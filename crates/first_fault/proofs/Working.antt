@@ -11,7 +11,7 @@ use Rattle.poly_model.specs.declared.limits.Reason.{Reason}
 use Rattle.poly_model.specs.declared.limits.TheConstants.{MOST_FUEL}
 use Rattle.poly_model.specs.declared.vars.VarName.{VarName}
 use Rattle.proof_steps.specs.Numbers.{item, has, replaced}
-use Rattle.proof_steps.specs.Rules.{is_valid, is_triangular, reason_of, made, attempt_of, tells_result, stepped, size_of, sizes, plus_child}
+use Rattle.proof_steps.specs.Rules.{is_valid, is_triangular, reason_of, made, attempt_of, tells_result, stepped, size_of, plus_child}
 use Rattle.proof_steps.specs.Work as work
 use Rattle.proof_steps.specs.Work.{Next, next}
 use Rattle.proof_steps.specs.declared.piece.Node.{Node}
@@ -35,7 +35,7 @@ use Rattle.proof_log.specs.declared.place.Part.{Part}
 use Rattle.proof_log.specs.declared.place.Part.TheVariants as part
 use Rattle.proof_log.specs.declared.place.Place.{Place}
 use Rattle.log_checker.specs.Fitting as fitting
-use Rattle.log_checker.specs.Fitting.{Work, At, Chaining, Ended, Inside, State, listed, where_fits, in_piece, node_row, node_settled, verdict_row, after}
+use Rattle.log_checker.specs.Fitting.{Work, At, Chaining, Ended, Inside, State, root, listed, where_fits, in_piece, node_row, node_settled, verdict_row, after}
 use Rattle.log_checker.proofs.Fits.{same_verdict-self}
 use Rattle.first_fault.specs.FirstFault.{RootHasFuel, HasRoom}
 use Rattle.first_fault.proofs.Standing.{Works, Inner, Shared, InProof, Known, Stands, IsPosing}
