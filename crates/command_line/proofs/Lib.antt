@@ -16,3 +16,4 @@ pub mod CarryingFacts
 mod CarriedFigures
 mod Headline
 pub mod Trials
+pub mod Counts

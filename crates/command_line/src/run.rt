@@ -3,15 +3,14 @@ ghost use Rattle.std.specs.Prelude.{◌≡◌, ◌≤◌, ◌⊎◌, List, ℕ, 
 ghost use Rattle.std.specs.String.{string_bytes};
 ghost use Rattle.desk_io.specs.Causes.{Rose};
 ghost use Rattle.desk_io.specs.Files.{Lacks};
-ghost use Rattle.command_line.specs.Table.{IsAnswer, TextOf, ProveOf, CheckOf, CarryOf, TrialOf, form_of};
+ghost use Rattle.command_line.specs.Table.{IsAnswerOf, TextOf, ProveOf, CheckOf, TrialOf, form_of};
 ghost use Rattle.command_line.specs.Command.{Command};
-ghost use Rattle.command_line.specs.Contract.{IsRun, IsTextRun, IsProofRun, IsCheckRun, IsCarryRun, IsTrialRun, IsQuiet, lent, views};
+ghost use Rattle.command_line.specs.Contract.{IsRun, IsTextRun, IsProofRun, IsCheckRun, IsTrialRun, IsQuiet, lent, views};
 ghost use Rattle.command_line.specs.Headline.{Headline};
 ghost use Rattle.command_line.specs.Pipeline.{svg_of, latex_of, system_of, show_of};
 ghost use Rattle.command_line.specs.Run.{Answers};
 ghost use Rattle.command_line.specs.Samples.{sample_of};
 
-use crate::carry::carry_run;
 use crate::check::check_run;
 use crate::invocation::{Invocation, TextForm, read_command};
 use crate::laws::a_yes_is_assured;
@@ -30,7 +29,7 @@ use std::sync::Wait;
 use std::thread::Threads;
 
 const USAGE: &[u8] =
-    b"usage: gclc svg FILE, latex FILE, system FILE, show FILE, prove FILE [--workers N], check LOG [FILE], trial NUMBER WORKERS, sample FILE, carry LOG FILE FIGURE\n";
+    b"usage: gclc svg FILE, latex FILE, system FILE, show FILE, prove FILE [--workers N], check LOG [FILE], trial NUMBER WORKERS, sample FILE\n";
 
 // Reads the file and runs the command over it. The call below says what follows.
 fn file_answered<C: TextCommand, K: Desk, S: Sink, N: Sink>(
@@ -41,7 +40,7 @@ fn file_answered<C: TextCommand, K: Desk, S: Sink, N: Sink>(
     notes: &mut N,
 ) -> Status
     ensures answered { Answers (K.held desk.old) (Rose (K.faults desk.old) (K.faults desk.new))
-        (IsAnswer (Some (TextOf C.made name.now)))
+        (name.now ∷ []) (IsAnswerOf (Some (TextOf C.made name.now)))
         (S.written out.old) (S.written out.new) (N.written notes.old) (N.written notes.new) result }
     ensures read_fault { result ≡ Status.ReadFault
         → Rose (K.faults desk.old) (K.faults desk.new) ⊎ Lacks (K.held desk.old) name.now }
@@ -175,7 +174,7 @@ fn proofs_answered<P: Prover, K: Desk, S: Sink, N: Sink>(
 ) -> Status
     requires { P.ready }
     ensures answered { Answers (K.held desk.old) (Rose (K.faults desk.old) (K.faults desk.new))
-        (IsAnswer (Some (ProveOf name.now)))
+        (name.now ∷ []) (IsAnswerOf (Some (ProveOf name.now)))
         (S.written out.old) (S.written out.new) (N.written notes.old) (N.written notes.new) result }
     ensures read_fault { result ≡ Status.ReadFault
         → Rose (K.faults desk.old) (K.faults desk.new) ⊎ Lacks (K.held desk.old) name.now }
@@ -249,9 +248,6 @@ fn words_run<R: Threads + Wait + Sync, D: Domain, K: Desk, S: Sink, N: Sink>(
         → IsProofRun result }
     ensures checked { (log : List ℕ) (file : Option (List ℕ))
         → form_of (map string_bytes words.now) ≡ Some (CheckOf log file) → IsCheckRun file result }
-    ensures carried { (log file figure : List ℕ)
-        → form_of (map string_bytes words.now) ≡ Some (CarryOf log file figure)
-        → IsCarryRun (lent desk.old out.old notes.old) (lent desk.new out.new notes.new) result }
     ensures trial { (number : ℕ) → form_of (map string_bytes words.now) ≡ Some (TrialOf number)
         → IsTrialRun (lent desk.old out.old notes.old) (lent desk.new out.new notes.new) result }
 {
@@ -266,9 +262,6 @@ fn words_run<R: Threads + Wait + Sync, D: Domain, K: Desk, S: Sink, N: Sink>(
             proofs_run(&Together { rt, workers }, alloc, name, desk, out, notes)
         }
         Invocation::Check(log, file) => check_run(alloc, domain, log, file, desk, out, notes),
-        Invocation::Carry(log, file, figure) => {
-            carry_run(alloc, domain, log, file, figure, desk, out, notes)
-        }
         Invocation::Trial(number, workers) => {
             trial_run(&Together { rt, workers }, alloc, domain, number, out)
         }
@@ -299,13 +292,10 @@ pub fn gclc_run<R: Threads + Wait + Sync, D: Domain, K: Desk, S: Sink, N: Sink>(
         → IsProofRun result }
     ensures checked { (log : List ℕ) (file : Option (List ℕ))
         → form_of (map string_bytes words.now) ≡ Some (CheckOf log file) → IsCheckRun file result }
-    ensures carried { (log file figure : List ℕ)
-        → form_of (map string_bytes words.now) ≡ Some (CarryOf log file figure)
-        → IsCarryRun (lent desk.old out.old notes.old) (lent desk.new out.new notes.new) result }
     ensures trial { (number : ℕ) → form_of (map string_bytes words.now) ≡ Some (TrialOf number)
         → IsTrialRun (lent desk.old out.old notes.old) (lent desk.new out.new notes.new) result }
     ensures headline { Headline D.operations (form_of (map string_bytes words.now))
-        (K.held desk.old) result }
+        (K.held desk.old) (S.written out.old) (S.written out.new) result }
 {
     a_yes_is_assured(domain);
     words_run::<R, D, K, S, N>(rt, alloc, domain, words, desk, out, notes)
