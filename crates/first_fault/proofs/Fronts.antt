@@ -20,7 +20,7 @@ use Rattle.proof_log.specs.declared.place.Place.{Place}
 use Rattle.proof_log.specs.declared.setting.Setting.{Setting}
 use Rattle.proof_log.proofs.Logs.{run_log, run_append, whole_is}
 use Rattle.log_checker.specs.Fitting as fitting
-use Rattle.log_checker.specs.Fitting.{State, begin, root, where_fits, settled, node_settled, verdict_settled, inside_row, by_part, after, fitted}
+use Rattle.log_checker.specs.Fitting.{State, begin, root, settled, node_settled, verdict_settled, inside_row, by_part, after, fitted}
 use Rattle.log_checker.proofs.Fits.{fitted_from, log_accepted, log_goes}
 use Rattle.first_fault.specs.FirstFault.{BeginAccepted, NextHasFuel, RootHasFuel, Fit, AreLetThrough, IsUnfit, FittingBegins, IsFirst, Overfills, RejectedIsFirst}
 use Rattle.first_fault.proofs.Standing.{IsBetween, IsOpening, IsWithin, Known, Stands, ArePosing}
