@@ -1,0 +1,38 @@
+-- What placement keeps.
+use Rattle.std.specs.Prelude.{◌≡◌, ◌≢◌, ℕ, ℤ, List, ◌↔◌, false}
+use Rattle.poly_model.specs.Domain.{Operations, integers}
+use Rattle.gcl_reader.specs.declared.word.Statement.{Statement}
+use Rattle.gcl_names.specs.declared.program.Act.{Act}
+use Rattle.gcl_names.specs.Sound.{AllFollow, AreMade, after_all, nothing}
+use Rattle.algebraize.specs.Vectors.{Vector, minus, sq}
+use Rattle.algebraize.specs.Figure.{Figure, Meets, MeetsStatement}
+use Rattle.algebraize.specs.Layout.{figure_at}
+use Rattle.placement.specs.Placing.{free_points, image, frame, image_point}
+use Rattle.placement.specs.Images.{is_flat}
+
+-- The square of the axis is not zero: the first two free points are at a distance that is not zero, or there are fewer.
+abbrev pub CanBePlaced : {M : Type 0} → Operations M → List Act → Figure M → Type 0
+CanBePlaced o acts f = sq o (frame o acts f).axis ≢ o.zero
+
+-- The figure at the image point.
+abbrev pub placed : {M : Type 0} → Operations M → List Act → Figure M → Figure M
+placed o acts f = figure_at o acts (image_point o acts f)
+
+-- A figure meets what it constructs exactly if it does when it is placed.
+abbrev pub PlacementKeepsConstructions : {M : Type 0} → Operations M → Type 0
+PlacementKeepsConstructions {M} o = (acts : List Act) (f : Figure M) → AllFollow nothing acts → CanBePlaced o acts f
+    → Meets o f acts ↔ Meets o (placed o acts f) acts
+
+-- It meets a statement over its points exactly if it does when it is placed.
+abbrev pub PlacementKeepsStatements : {M : Type 0} → Operations M → Type 0
+PlacementKeepsStatements {M} o = (acts : List Act) (f : Figure M) (s : Statement) (points : List ℕ) → AllFollow nothing acts → CanBePlaced o acts f
+    → AreMade (after_all nothing acts) points
+    → MeetsStatement o f s points ↔ MeetsStatement o (placed o acts f) s points
+
+-- With one free point a place is only moved.
+abbrev pub OneFreePointIsMoved : {M : Type 0} → Operations M → Type 0
+OneFreePointIsMoved {M} o = (a x : Vector M) → image o (record { origin = a; axis = (o.one, o.zero) }) x ≡ minus o x a
+
+-- Of whole numbers exactly the figures cannot be placed whose first two free points are at one place.
+abbrev pub FlatCannotBePlaced : Type 0
+FlatCannotBePlaced = (acts : List Act) (f : Figure ℤ) → (is_flat f (free_points acts) ≡ false) ↔ CanBePlaced integers acts f

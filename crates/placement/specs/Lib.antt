@@ -1,0 +1,4 @@
+pub mod Placing
+pub mod Small
+pub mod Images
+pub mod Laws
