@@ -26,7 +26,7 @@ use Rattle.command_line.specs.Contract.{IsFault}
 use Rattle.command_line.specs.Figures.{IsAssuredOf}
 use Rattle.command_line.specs.Headline.{Headline, IsDecided, IsWritten, ProvesOf, assured_so, ProvedIsAssured}
 use Rattle.command_line.specs.Proving.{proofs_of, log_text, proved}
-use Rattle.command_line.specs.Table.{Form, TextOf, ProveOf, CheckOf, OfFile, IsAnswer}
+use Rattle.command_line.specs.Table.{Form, TextOf, ProveOf, CheckOf, TrialOf, OfFile, IsAnswer}
 use Rattle.command_line.specs.VerdictLines.{problems_in}
 use Rattle.command_line.specs.declared.status.Status.{Status}
 use Rattle.command_line.specs.declared.status.Status.TheVariants.{Done}
@@ -124,7 +124,7 @@ are_proofs (p ∷ ps) h =
     let c = h.0 in
     (record { hyps = c.hypotheses; one = omega (arith, c.some_conclusion); two = c.conclusions }, omega (arith, c.some_piece), are_proofs ps h.1)
 
-accepted_text : (proofs : List Proof) → IsSure proofs → IsAcceptedText proofs (log_text proofs)
+pub accepted_text : (proofs : List Proof) → IsSure proofs → IsAcceptedText proofs (log_text proofs)
 accepted_text proofs sure = record {
   version = VERSION;
   fits = record { proofs = are_proofs proofs (recursion_from_All HasCounts proofs sure.whole.counts); written = sure.whole.written };
@@ -215,6 +215,7 @@ module _ {M : Type 0} (o : Operations M) (cover : TreesCover o) (hold : Verdicts
   pub headline : (form : Option Form) (held : Option Files) (status : Status) → IsDecided form held status → Headline o form held status
   headline None held status decided = tt
   headline (Some (TextOf command file)) held status decided = tt
+  headline (Some (TrialOf number)) held status decided = tt
   headline (Some (ProveOf file)) held status decided = λ written source there.
       let f = told held file source there in
       let a = answered (Some (ProveOf file)) f.0 status (decided f.0 f.1) written in

@@ -13,3 +13,4 @@ mod FileLogs
 mod Assured
 mod Figures
 mod Headline
+pub mod Trials

@@ -7,7 +7,7 @@ use Rattle.log_checker.proofs.Exact.{one_finding}
 use Rattle.desk_io.specs.Files.{Files, file_of}
 use Rattle.command_line.specs.Answer.{Answer, too_large}
 use Rattle.command_line.specs.Checking.{answer_to, IsChecked, IsAnswerAgainst, IsCompared, IsComparedWith, stated_in}
-use Rattle.command_line.specs.Table.{Form, TextOf, ProveOf, CheckOf, Source, OfFile, OfSources, IsAnswerOver, IsAnswer, sources_of}
+use Rattle.command_line.specs.Table.{Form, TextOf, ProveOf, CheckOf, TrialOf, Source, OfFile, OfSources, IsAnswerOver, IsAnswer, sources_of}
 
 -- There is at most one answer.
 abbrev AtMostOne : (Answer → Type 0) → Type 0
@@ -51,6 +51,7 @@ over_sources (s ∷ sources) Over one files a b p q =
 over_form : (form : Form) (files : List (List ℕ)) → AtMostOne (IsAnswerOver form files)
 over_form (TextOf command file) files a b p q = p ∙ sym q
 over_form (ProveOf file) files a b p q = p ∙ sym q
+over_form (TrialOf number) files a b p q = p ∙ sym q
 over_form (CheckOf log None) files a b p q = checked_one (get_or files 0 []) a b p q
 over_form (CheckOf log (Some file)) files a b p q = compared_with_one (stated_in (get_or files 1 [])) (get_or files 0 []) (get_or files 1 []) a b p q
 

@@ -105,6 +105,13 @@ pub record IsTextRun {K S N : Type 0} (old new : Lent K S N) (status : Status) :
 abbrev pub IsProofRun : Status → Type 0
 IsProofRun status = (status ≡ Usage → ⊥) × (status ≡ Rejected → ⊥)
 
+-- What a call promises besides that tries a number: no file is refused and no verdict tells, the desk is not touched, and
+-- nothing is said.
+pub record IsTrialRun {K S N : Type 0} (old new : Lent K S N) (status : Status) : Type 0 where
+  pub of_trial : (status ≡ Done) ⊎ (status ≡ WriteFault) ⊎ (status ≡ OutOfMemory)
+  pub idle : new.desk ≡ old.desk
+  pub unsaid : new.notes ≡ old.notes
+
 -- What a call promises besides that checks a log: it proves nothing, and refuses no file where none is named.
 abbrev pub IsCheckRun : (file : Option (List ℕ)) → Status → Type 0
 IsCheckRun file status = (status ≡ Usage → ⊥) × (status ≡ Unproved → ⊥) × (file ≡ None → status ≡ Refused → ⊥)

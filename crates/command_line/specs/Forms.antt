@@ -1,13 +1,14 @@
 -- The form that the program takes the words for.
 use Rattle.std.specs.Prelude.{Option, Some, None}
 use Rattle.std.specs.Option.{option_copied}
-use Rattle.command_line.specs.Table.{Form, TextOf, ProveOf, CheckOf}
+use Rattle.command_line.specs.Table.{Form, TextOf, ProveOf, CheckOf, TrialOf}
 use Rattle.command_line.specs.Command.{Command}
 use Rattle.command_line.specs.Pipeline.{svg_of, latex_of, system_of, show_of}
+use Rattle.command_line.specs.Samples.{sample_of}
 use Rattle.command_line.specs.declared.invocation.TextForm.{TextForm}
-use Rattle.command_line.specs.declared.invocation.TextForm.TheVariants.{Svg, Latex, System, Show}
+use Rattle.command_line.specs.declared.invocation.TextForm.TheVariants.{Svg, Latex, System, Show, Sample}
 use Rattle.command_line.specs.declared.invocation.Invocation.{Invocation}
-use Rattle.command_line.specs.declared.invocation.Invocation.TheVariants.{Wrong, Text, Prove, ProveTogether, Check}
+use Rattle.command_line.specs.declared.invocation.Invocation.TheVariants.{Wrong, Text, Prove, ProveTogether, Check, Trial}
 
 -- The command of a form that makes a text of one file.
 abbrev pub command_of : TextForm → Command
@@ -15,6 +16,7 @@ command_of Svg = svg_of
 command_of Latex = latex_of
 command_of System = system_of
 command_of Show = show_of
+command_of Sample = sample_of
 
 abbrev pub form_seen : Invocation → Option Form
 form_seen Wrong = None
@@ -22,3 +24,4 @@ form_seen (Text form name) = Some (TextOf (command_of form) name.now)
 form_seen (Prove name) = Some (ProveOf name.now)
 form_seen (ProveTogether name workers) = Some (ProveOf name.now)
 form_seen (Check log file) = Some (CheckOf log.now (option_copied file))
+form_seen (Trial number workers) = Some (TrialOf number)

@@ -8,7 +8,7 @@ use Rattle.command_line.specs.Assured.{IsAssuredLog}
 use Rattle.command_line.specs.Contract.{IsFault}
 use Rattle.command_line.specs.Figures.{IsAssuredOf}
 use Rattle.command_line.specs.Proving.{proofs_of, log_text}
-use Rattle.command_line.specs.Table.{Form, TextOf, ProveOf, CheckOf, IsAnswer}
+use Rattle.command_line.specs.Table.{Form, TextOf, ProveOf, CheckOf, TrialOf, IsAnswer}
 use Rattle.command_line.specs.declared.status.Status.{Status}
 use Rattle.command_line.specs.declared.status.Status.TheVariants.{Done, Unproved}
 
@@ -32,6 +32,7 @@ Headline o (Some (CheckOf log None)) held status =
     status ≡ Done → (bytes : List ℕ) → Holds held log bytes → IsAssuredLog o bytes
 Headline o (Some (CheckOf log (Some file))) held status =
     status ≡ Done → (bytes source : List ℕ) → Holds held log bytes → Holds held file source → IsAssuredOf o bytes source
+Headline o (Some (TrialOf number)) held status = Unit {0}
 
 -- Where the desk tells its files, the status is that of the answer over them, or a fault.
 abbrev pub IsDecided : Option Form → Option Files → Status → Type 0

@@ -4,9 +4,11 @@ pub mod VerdictLines
 pub mod Proving
 pub mod Checking
 pub mod Found
+pub mod Trials
 pub mod Table
 pub mod Command
 pub mod Pipeline
+pub mod Samples
 pub mod Forms
 pub mod Run
 pub mod Contract

@@ -1,6 +1,7 @@
 -- The table of forms: what the words of a command line ask for, and what the program answers over the files that they name.
-use Rattle.std.specs.Prelude.{◌≡◌, ℕ, ◌+◌, List, [], ◌∷◌, length, get_or, map, Option, Some, None, true, false, cond, nat_lt, codes}
+use Rattle.std.specs.Prelude.{◌≡◌, ℕ, ◌+◌, List, [], ◌∷◌, length, get_or, map, Option, Some, None, true, false, cond, if◌then◌else◌, ◌&&◌, nat_lt, codes, decimal}
 use Rattle.std.specs.Str.{bytes_eq}
+use Rattle.std.specs.Str.Parse.{digits_value}
 use Rattle.desk_io.specs.Files.{Files, file_of}
 use Rattle.gcl_reader.specs.declared.limits.TheConstants.{MOST_BYTES}
 use Rattle.poly_model.specs.declared.limits.TheConstants.{MOST_LOG_BYTES}
@@ -8,7 +9,11 @@ use Rattle.command_line.specs.Answer.{Answer, usage, read_fault, too_large, text
 use Rattle.command_line.specs.Command.{Command}
 use Rattle.command_line.specs.Pipeline.{svg_of, latex_of, system_of, show_of}
 use Rattle.command_line.specs.Proving.{proofs_of, proved}
+use Rattle.command_line.specs.Samples.{sample_of}
 use Rattle.command_line.specs.Checking.{IsChecked, IsCheckedAgainst}
+use Rattle.command_line.specs.Trials.{trial_of}
+use Rattle.command_line.specs.declared.numbers.TheConstants.{TRIALS}
+use Rattle.trial_file.specs.Trial.{trial_text}
 
 -- ---- forms
 -- A form of the command line, with its words behind the first.
@@ -16,6 +21,7 @@ pub data Form : Type 0 where
   TextOf : Command → (file : List ℕ) → Form  -- a text that a command makes of a file
   ProveOf : (file : List ℕ) → Form  -- the log of a file's proofs
   CheckOf : (log : List ℕ) → (file : Option (List ℕ)) → Form  -- whether a log is accepted, and has a file's problems
+  TrialOf : (number : ℕ) → Form  -- what comes of the file of a number
 
 -- A file that a form names, and the most bytes that it may have.
 pub record Source : Type 0 where
@@ -31,6 +37,7 @@ sources_of (TextOf command file) = source file MOST_BYTES ∷ []
 sources_of (ProveOf file) = source file MOST_BYTES ∷ []
 sources_of (CheckOf log None) = source log MOST_LOG_BYTES ∷ []
 sources_of (CheckOf log (Some file)) = source log MOST_LOG_BYTES ∷ source file MOST_BYTES ∷ []
+sources_of (TrialOf number) = []
 
 -- ---- answers over the bytes of the files
 -- The answer of a form over the bytes of its files.
@@ -39,6 +46,7 @@ IsAnswerOver (TextOf command file) files a = a ≡ answer_from text_answer (get_
 IsAnswerOver (ProveOf file) files a = a ≡ answer_from proved (get_or files 0 []) (proofs_of (get_or files 0 []))
 IsAnswerOver (CheckOf log None) files a = IsChecked (get_or files 0 []) a
 IsAnswerOver (CheckOf log (Some file)) files a = IsCheckedAgainst (get_or files 0 []) (get_or files 1 []) a
+IsAnswerOver (TrialOf number) files a = a ≡ answer_from text_answer (trial_text number) (trial_of number)
 
 -- The answer over a file of at most so many bytes: what comes next sees the bytes.
 abbrev pub OfFile : ℕ → Option (List ℕ) → (List ℕ → Answer → Type 0) → Answer → Type 0
@@ -103,6 +111,25 @@ log_and_file (log ∷ []) = Some (CheckOf log None)
 log_and_file (log ∷ file ∷ []) = Some (CheckOf log (Some file))
 log_and_file (log ∷ file ∷ other ∷ words) = None
 
+-- The number of a trial that a word tells: the word is its decimal text.
+abbrev pub trial_number : List ℕ → Option ℕ
+trial_number word =
+    let n = digits_value 10 word in
+    if nat_lt n TRIALS && bytes_eq word (decimal n) then Some n else None
+
+-- What comes of a number does not depend on the number of workers.
+abbrev pub tried_by : Option ℕ → Option ℕ → Option Form
+tried_by None count = None
+tried_by (Some number) None = None
+tried_by (Some number) (Some count) = Some (TrialOf number)
+
+-- The words behind `trial`: a number, and how many workers there are.
+abbrev pub trial_words : List (List ℕ) → Option Form
+trial_words [] = None
+trial_words (number ∷ []) = None
+trial_words (number ∷ count ∷ []) = tried_by (trial_number number) (worker_count count)
+trial_words (number ∷ count ∷ other ∷ words) = None
+
 -- All forms.
 abbrev pub rows : List Row
 rows =
@@ -110,8 +137,10 @@ rows =
     ∷ record { word = codes "latex"; form = one_file (TextOf latex_of) }
     ∷ record { word = codes "system"; form = one_file (TextOf system_of) }
     ∷ record { word = codes "show"; form = one_file (TextOf show_of) }
+    ∷ record { word = codes "sample"; form = one_file (TextOf sample_of) }
     ∷ record { word = codes "prove"; form = prove_words }
     ∷ record { word = codes "check"; form = log_and_file }
+    ∷ record { word = codes "trial"; form = trial_words }
     ∷ []
 
 -- The form that a first word begins, by the first row that has it.

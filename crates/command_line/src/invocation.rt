@@ -1,9 +1,10 @@
 // The words of the command line.
 ghost use Rattle.std.specs.Prelude.{◌≡◌, map};
 ghost use Rattle.std.specs.String.{string_bytes};
-ghost use Rattle.command_line.specs.Table.{TextOf, one_file, log_and_file, form_of, prove_words, proved_by, worker_count};
+ghost use Rattle.command_line.specs.Table.{TextOf, one_file, log_and_file, form_of, prove_words, proved_by, trial_number, trial_words, tried_by, worker_count};
 ghost use Rattle.command_line.specs.Forms.{command_of, form_seen};
 
+use crate::numbers::trial_number;
 use crate::workers::{Workers, worker_count};
 
 /// The forms that make a text of one file.
@@ -13,6 +14,7 @@ pub enum TextForm {
     Latex,
     System,
     Show,
+    Sample,
 }
 
 /// What the words ask for.
@@ -28,6 +30,8 @@ pub enum Invocation<'a> {
     ProveTogether(&'a str, Workers),
     /// Whether a log is accepted, and whether it has the problems of a file, where one is named.
     Check(&'a str, Option<&'a str>),
+    /// What comes of the file of a number, by workers who do each proof together.
+    Trial(u32, Workers),
 }
 
 // A form that makes a text, with the words behind its first.
@@ -74,6 +78,29 @@ fn read_check(names: &[String]) -> Invocation<'_>
     }
 }
 
+// `trial` of the number that a word tells, by as many workers as another tells.
+fn read_trial_by(number: &str, count: &str) -> Invocation<'static>
+    ensures { form_seen result ≡ tried_by (trial_number number.now) (worker_count count.now) }
+{
+    let Some(number) = trial_number(number) else {
+        return Invocation::Wrong;
+    };
+    match worker_count(count) {
+        Some(count) => Invocation::Trial(number, Workers { count }),
+        None => Invocation::Wrong,
+    }
+}
+
+// `trial`, with the words behind it.
+fn read_trial(words: &[String]) -> Invocation<'_>
+    ensures { form_seen result ≡ trial_words (map string_bytes words.now) }
+{
+    match words {
+        [number, count] => read_trial_by(number.as_str(), count.as_str()),
+        _ => Invocation::Wrong,
+    }
+}
+
 /// Takes the words after the program's name apart. A name may be any word, also one that begins with `-`.
 pub fn read_command(words: &[String]) -> Invocation<'_>
     ensures { form_seen result ≡ form_of (map string_bytes words.now) }
@@ -86,8 +113,10 @@ pub fn read_command(words: &[String]) -> Invocation<'_>
         "latex" => read_text(TextForm::Latex, names),
         "system" => read_text(TextForm::System, names),
         "show" => read_text(TextForm::Show, names),
+        "sample" => read_text(TextForm::Sample, names),
         "prove" => read_prove(names),
         "check" => read_check(names),
+        "trial" => read_trial(names),
         _ => Invocation::Wrong,
     }
 }

@@ -2,6 +2,7 @@
 ghost use Rattle.std.specs.Prelude.{IfOk};
 ghost use Rattle.gcl_names.specs.Sound.{IsSound};
 ghost use Rattle.gcl_reader.specs.Grammar.{Gives};
+ghost use Rattle.proof_log.specs.Accepted.{IsAccepted};
 ghost use Rattle.proof_log.specs.declared.limits.TheConstants.{VERSION};
 ghost use Rattle.prove_run.specs.Logs.{log_of_program};
 ghost use Rattle.prove_run.specs.Whole.{IsWhole};
@@ -26,6 +27,7 @@ pub trait Prover {
         requires ready { ready }
         requires sound { IsSound program.now }
         ensures log { Gives (λ log. log.proofs) result (log_of_program program.now.acts) }
+        ensures accepted { IfOk result (λ log. IsAccepted VERSION log.proofs) }
         ensures whole { IfOk result (λ log. IsWhole VERSION log.proofs) };
 }
 

@@ -23,9 +23,9 @@ use proof_log::{Log, Proof, write_log};
 use std::alloc::Global;
 use verdicts::Verdict;
 
-// The log of a file.
+/// The log of a file.
 #[tactic(auto, unfolding(crate::specs::Proving::proofs_of))]
-fn prove_file<P: Prover>(prover: &P, alloc: Global, bytes: &[u8]) -> Result<Log, GclFault>
+pub fn prove_file<P: Prover>(prover: &P, alloc: Global, bytes: &[u8]) -> Result<Log, GclFault>
     requires ready { P.ready }
     requires fits { length bytes.now ≤ MOST_BYTES }
     ensures value { Gives (λ log. log.proofs) result (proofs_of bytes.now) }
@@ -57,8 +57,8 @@ fn status_of(proofs: &[Proof]) -> Status
     Status::Done
 }
 
-// Puts the log whole, with a pen that has gathered nothing.
-fn put_log<S: Sink>(log: &Log, mut pen: Pen, out: &mut S) -> Result<(), Failed>
+/// Puts the log whole, with a pen that has gathered nothing.
+pub fn put_log<S: Sink>(log: &Log, mut pen: Pen, out: &mut S) -> Result<(), Failed>
     requires pen { pen ≡ [] }
     requires own { All IsOwn log.now.proofs }
     ensures bytes { Puts (S.written out.old) (S.written out.new) result (log_text log.now.proofs) }

@@ -3,12 +3,13 @@ ghost use Rattle.std.specs.Prelude.{◌≡◌, ◌≤◌, ◌⊎◌, List, ℕ, 
 ghost use Rattle.std.specs.String.{string_bytes};
 ghost use Rattle.desk_io.specs.Causes.{Rose};
 ghost use Rattle.desk_io.specs.Files.{Lacks};
-ghost use Rattle.command_line.specs.Table.{IsAnswer, TextOf, ProveOf, CheckOf, form_of};
+ghost use Rattle.command_line.specs.Table.{IsAnswer, TextOf, ProveOf, CheckOf, TrialOf, form_of};
 ghost use Rattle.command_line.specs.Command.{Command};
-ghost use Rattle.command_line.specs.Contract.{IsRun, IsTextRun, IsProofRun, IsCheckRun, IsQuiet, lent, views};
+ghost use Rattle.command_line.specs.Contract.{IsRun, IsTextRun, IsProofRun, IsCheckRun, IsTrialRun, IsQuiet, lent, views};
 ghost use Rattle.command_line.specs.Headline.{Headline};
 ghost use Rattle.command_line.specs.Pipeline.{svg_of, latex_of, system_of, show_of};
 ghost use Rattle.command_line.specs.Run.{Answers};
+ghost use Rattle.command_line.specs.Samples.{sample_of};
 
 use crate::check::check_run;
 use crate::invocation::{Invocation, TextForm, read_command};
@@ -16,8 +17,10 @@ use crate::laws::a_yes_is_assured;
 use crate::pipeline::{LatexCommand, ShowCommand, SvgCommand, SystemCommand};
 use crate::prover::{Alone, Prover, Together};
 use crate::proving::put_file_proofs;
+use crate::sampling::SampleCommand;
 use crate::stage::{TextCommand, fetch, put_file, say};
 use crate::status::Status;
+use crate::trial::trial_run;
 use desk_io::{Desk, Sink};
 use gcl_reader::MOST_BYTES;
 use poly_model::Domain;
@@ -26,7 +29,7 @@ use std::sync::Wait;
 use std::thread::Threads;
 
 const USAGE: &[u8] =
-    b"usage: gclc svg FILE, latex FILE, system FILE, show FILE, prove FILE [--workers N], check LOG [FILE]\n";
+    b"usage: gclc svg FILE, latex FILE, system FILE, show FILE, prove FILE [--workers N], check LOG [FILE], trial NUMBER WORKERS, sample FILE\n";
 
 // Reads the file and runs the command over it. The call below says what follows.
 fn file_answered<C: TextCommand, K: Desk, S: Sink, N: Sink>(
@@ -143,6 +146,23 @@ pub fn show_run<K: Desk, S: Sink, N: Sink>(
     file_run::<ShowCommand, K, S, N>(alloc, name, desk, out, notes)
 }
 
+/// `sample FILE`: proves the file's statements, by one worker, and writes the point that is found for each.
+pub fn sample_run<K: Desk, S: Sink, N: Sink>(
+    alloc: Global,
+    name: &str,
+    desk: &mut K,
+    out: &mut S,
+    notes: &mut N,
+) -> Status
+    ensures run { IsRun (views K.held K.faults S.written S.faults N.written N.faults)
+        (lent desk.old out.old notes.old) (lent desk.new out.new notes.new)
+        (Some (TextOf sample_of name.now)) result }
+    ensures text { IsTextRun (lent desk.old out.old notes.old)
+        (lent desk.new out.new notes.new) result }
+{
+    file_run::<SampleCommand, K, S, N>(alloc, name, desk, out, notes)
+}
+
 // Reads the file and proves its statements. The call below says what follows.
 fn proofs_answered<P: Prover, K: Desk, S: Sink, N: Sink>(
     prover: &P,
@@ -228,24 +248,31 @@ fn words_run<R: Threads + Wait + Sync, D: Domain, K: Desk, S: Sink, N: Sink>(
         → IsProofRun result }
     ensures checked { (log : List ℕ) (file : Option (List ℕ))
         → form_of (map string_bytes words.now) ≡ Some (CheckOf log file) → IsCheckRun file result }
+    ensures trial { (number : ℕ) → form_of (map string_bytes words.now) ≡ Some (TrialOf number)
+        → IsTrialRun (lent desk.old out.old notes.old) (lent desk.new out.new notes.new) result }
 {
     match read_command(words) {
         Invocation::Text(TextForm::Svg, name) => svg_run(alloc, name, desk, out, notes),
         Invocation::Text(TextForm::Latex, name) => latex_run(alloc, name, desk, out, notes),
         Invocation::Text(TextForm::System, name) => system_run(alloc, name, desk, out, notes),
         Invocation::Text(TextForm::Show, name) => show_run(alloc, name, desk, out, notes),
+        Invocation::Text(TextForm::Sample, name) => sample_run(alloc, name, desk, out, notes),
         Invocation::Prove(name) => prove_one_run(alloc, name, desk, out, notes),
         Invocation::ProveTogether(name, workers) => {
             proofs_run(&Together { rt, workers }, alloc, name, desk, out, notes)
         }
         Invocation::Check(log, file) => check_run(alloc, domain, log, file, desk, out, notes),
+        Invocation::Trial(number, workers) => {
+            trial_run(&Together { rt, workers }, alloc, domain, number, out)
+        }
         Invocation::Wrong => say(USAGE, Status::Usage, notes),
     }
 }
 
 /// What the program does with the words after its name. What a check of a log has shown is told in the domain.
 ///
-/// `prove FILE --workers N` has workers do each proof together, also where N is 1; no other form starts a thread.
+/// `prove FILE --workers N` and `trial NUMBER N` have workers do each proof together, also where N is 1; no other form
+/// starts a thread.
 pub fn gclc_run<R: Threads + Wait + Sync, D: Domain, K: Desk, S: Sink, N: Sink>(
     rt: &R,
     alloc: Global,
@@ -265,6 +292,8 @@ pub fn gclc_run<R: Threads + Wait + Sync, D: Domain, K: Desk, S: Sink, N: Sink>(
         → IsProofRun result }
     ensures checked { (log : List ℕ) (file : Option (List ℕ))
         → form_of (map string_bytes words.now) ≡ Some (CheckOf log file) → IsCheckRun file result }
+    ensures trial { (number : ℕ) → form_of (map string_bytes words.now) ≡ Some (TrialOf number)
+        → IsTrialRun (lent desk.old out.old notes.old) (lent desk.new out.new notes.new) result }
     ensures headline { Headline D.operations (form_of (map string_bytes words.now))
         (K.held desk.old) result }
 {

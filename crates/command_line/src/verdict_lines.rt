@@ -14,8 +14,8 @@ use proof_log::{Proof, write_verdict};
 use std::alloc::{AllocError, Global};
 use verdicts::Verdict;
 
-// `prove K: `
-fn write_heading<S: Sink>(k: usize, pen: &mut Pen, sink: &mut S) -> Result<(), Failed>
+/// Writes what a line begins with, `prove K: `.
+pub fn write_heading<S: Sink>(k: usize, pen: &mut Pen, sink: &mut S) -> Result<(), Failed>
     ensures bytes { Writes (S.written sink.old) (S.written sink.new) pen.old pen.new result
         (codes "prove " ++ decimal k ++ codes ": ") }
     ensures cause { HasCause (S.faults sink.old) (S.faults sink.new) result }

@@ -7,6 +7,7 @@ use Rattle.command_line.specs.Run.{Answers}
 use Rattle.command_line.proofs.Causes.{complete, cut_off}
 use Rattle.command_line.proofs.Decided.{decided}
 use Rattle.command_line.proofs.Dues.{given, due_over}
+use Rattle.command_line.proofs.Trials.{trial-runs}
 use Rattle.command_line.proofs.run.words_run.Goals as goal
 
 pub returns-in-Wrong-clause-run : goal.returns-in-Wrong-clause-run
@@ -37,3 +38,15 @@ returns-in-Wrong-clause-run g c =
       same = refl;
       later = (omega arith, omega arith, c.say.ensures.later);
     })
+
+pub returns-in-Trial-clause-run : goal.returns-in-Trial-clause-run
+returns-in-Trial-clause-run g c =
+    let v = views g.K.Desk.held g.K.Desk.faults g.S.Sink.written g.S.Sink.faults g.N.Sink.written g.N.Sink.faults in
+    subst (λ form. IsRun v (lent c.args.desk.now c.args.out.now c.args.notes.now) (lent c.args.desk.now c.trial_run.new.out c.args.notes.now) form c.trial_run.result)
+    c.in-Trial.ensures
+    (trial-runs v c.args.desk.now c.args.out.now c.trial_run.new.out c.args.notes.now c.in-Trial.number c.trial_run.result
+    (c.trial_run.ensures.ends (g.N.Sink.written c.args.notes.now)) c.trial_run.ensures.status c.trial_run.ensures.write_fault c.trial_run.ensures.untouched
+    c.trial_run.ensures.later)
+
+pub returns-in-Trial-clause-trial : goal.returns-in-Trial-clause-trial
+returns-in-Trial-clause-trial g c number form = record { of_trial = c.trial_run.ensures.status; idle = refl; unsaid = refl }
