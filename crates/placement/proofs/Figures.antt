@@ -10,8 +10,9 @@ use Rattle.gcl_names.specs.declared.program.Deed.TheVariants as deed
 use Rattle.gcl_names.specs.Sound.{Counts, Follows, AllFollow, AreMade, after, after_all}
 use Rattle.algebraize.specs.Vectors.{Vector, sq}
 use Rattle.algebraize.specs.Curves.{Line, Circle, Curves, no_line, no_circle, no_curves}
-use Rattle.algebraize.specs.Figure.{Figure, Effect, Nothing, NewLine, NewCircle, Conditions, effect, conditions, with_effect, place_of, stated, over_two, over_three, over_four, conclusion, AreZero, MeetsFrom, MeetsStatement}
+use Rattle.algebraize.specs.Figure.{Figure, Effect, Nothing, NewLine, NewCircle, Conditions, effect, conditions, with_effect, place_of, stated, over_two, over_three, over_four, conclusion, MeetsFrom, MeetsStatement}
 use Rattle.algebraize.specs.Ratio.{numerator, denominator}
+use Rattle.placement.specs.Laws.{MeetAlikeFrom}
 use Rattle.placement.proofs.Rows as rows
 
 -- What a command makes is added to what was there.
@@ -252,16 +253,16 @@ module _ {M : Type 0} {o : Operations M} (D : IsDomain o) (origin axis : Vector 
 
   -- acts
   pub same-acts : (N : ℕ) (f g : Figure M) (c d : Curves M) (n : Counts) (acts : List Act)
-      → FigurePlaced N f g → CurvesSame n c d → AllFollow n acts → (after_all n acts).points ≤ N → MeetsFrom o f c acts ↔ MeetsFrom o g d acts
-  unfolding MeetsFrom AllFollow after_all
-  same-acts N f g c d n [] p s k le = ((λ z. z), (λ z. z))
+      → FigurePlaced N f g → CurvesSame n c d → AllFollow n acts → (after_all n acts).points ≤ N → MeetAlikeFrom o f g c d acts
+  unfolding MeetAlikeFrom AllFollow after_all
+  same-acts N f g c d n [] p s k le = tt
   same-acts N f g c d n (a ∷ acts) p s k le =
       let grown = all-points-grow (after n a.deed) acts in
       let e = same-effect N f g c d n a.deed p s k.0 (omega arith) in
       let here = same-conditions _ _ e in
       let there = same-acts N f g (with_effect (effect o f c a.deed) c) (with_effect (effect o g d a.deed) d) (after n a.deed) acts p
-          (same-with n (after n a.deed) _ _ c d e s (count-effect f c n a.deed)) k.1 le in
-      ((λ z. (here.forth z.0, there.0 z.1)), (λ z. (here.back z.0, there.1 z.1)))
+      (same-with n (after n a.deed) _ _ c d e s (count-effect f c n a.deed)) k.1 le in
+      ((here.forth, here.back), there)
 
   -- statements
   abbrev AllPlaced : List (Vector M) → List (Vector M) → Type 0
@@ -381,6 +382,15 @@ module _ {M : Type 0} {o : Operations M} (D : IsDomain o) (origin axis : Vector 
   same-statement N f g n s points p k le =
       let h = same-stated s _ _ (all-placed N f g n points p k le) in
       (h.forth, h.back)
+
+-- Figures that meet each act alike meet them all alike.
+pub alike-all : {M : Type 0} (o : Operations M) (f g : Figure M) (c d : Curves M) (acts : List Act) → MeetAlikeFrom o f g c d acts
+    → MeetsFrom o f c acts ↔ MeetsFrom o g d acts
+unfolding MeetsFrom MeetAlikeFrom
+alike-all o f g c d [] h = ((λ z. z), (λ z. z))
+alike-all o f g c d (a ∷ acts) h =
+    let there = alike-all o f g (with_effect (effect o f c a.deed) c) (with_effect (effect o g d a.deed) d) acts h.1 in
+    ((λ z. (h.0.0 z.0, there.0 z.1)), (λ z. (h.0.1 z.0, there.1 z.1)))
 
 -- The first acts of a sound list are sound, and the others follow them.
 pub follow-front : (n : Counts) (before rest : List Act) → AllFollow n (before ++ rest) → AllFollow n before × AllFollow (after_all n before) rest

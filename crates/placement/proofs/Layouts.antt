@@ -212,12 +212,12 @@ module _ {M : Type 0} {o : Operations M} (L : IsCommutativeRing o) (f : Figure M
       let q = image o r (place_of o f n) in
       more n l t (x, y) h p (v ∙ ap (λ ms. length l.variables + length ms) (sym e))
       (λ rest.
-          let first : get_or (front ++ (coordinates q ++ rest)) (length l.variables) o.one ≡ q.0 = at-end front (coordinates q ++ rest) (length l.variables) 0 o.one (omega (arith, h.variables)) in
-          let second : get_or (front ++ (coordinates q ++ rest)) (length l.variables + 1) o.one ≡ q.1 = at-end front (coordinates q ++ rest) (length l.variables + 1) 1 o.one (omega (arith, h.variables)) in
-          let read : place_at o (front ++ (coordinates q ++ rest)) (x, y) ≡ q =
-          (λ i. place_at o (front ++ (coordinates q ++ rest)) (ex i, ey i)) ∙ (λ i. (first i, second i)) in
-          subst (λ ms. Placed (place_of o f n) (place_at o (front ++ (ms ++ rest)) (x, y))) (sym e)
-          (subst (λ z. Placed (place_of o f n) z) (sym read) (turn.placed-image L r.origin r.axis (place_of o f n))))
+      let first : get_or (front ++ (coordinates q ++ rest)) (length l.variables) o.one ≡ q.0 = at-end front (coordinates q ++ rest) (length l.variables) 0 o.one (omega (arith, h.variables)) in
+      let second : get_or (front ++ (coordinates q ++ rest)) (length l.variables + 1) o.one ≡ q.1 = at-end front (coordinates q ++ rest) (length l.variables + 1) 1 o.one (omega (arith, h.variables)) in
+      let read : place_at o (front ++ (coordinates q ++ rest)) (x, y) ≡ q =
+      (λ i. place_at o (front ++ (coordinates q ++ rest)) (ex i, ey i)) ∙ (λ i. (first i, second i)) in
+      subst (λ ms. Placed (place_of o f n) (place_at o (front ++ (ms ++ rest)) (x, y))) (sym e)
+      (subst (λ z. Placed (place_of o f n) z) (sym read) (turn.placed-image L r.origin r.axis (place_of o f n))))
 
   laid-dependent : (n : ℕ) (l : Layout) → Laid n l → Neither n → Laid (suc n) (dependent_point l)
   laid-dependent n l h other =
@@ -245,9 +245,9 @@ module _ {M : Type 0} {o : Operations M} (L : IsCommutativeRing o) (f : Figure M
       let front = listed_to o r f frees n in
       more n l _ (next l, coordinate.Zero) h refl (let c : length (listed o r f frees n) ≡ 1 = ap length e in simp length-append (omega (arith, c)))
       (λ rest.
-          let first : get_or (front ++ (sq o r.axis ∷ rest)) (length l.variables) o.one ≡ sq o r.axis = at-end front (sq o r.axis ∷ rest) (length l.variables) 0 o.one (omega (arith, h.variables)) in
-          subst (λ ms. Placed (place_of o f n) (place_at o (front ++ (ms ++ rest)) (next l, coordinate.Zero))) (sym e)
-          (subst (λ z. Placed (place_of o f n) (z, o.zero)) (sym first) (second-placed L f frees n u)))
+      let first : get_or (front ++ (sq o r.axis ∷ rest)) (length l.variables) o.one ≡ sq o r.axis = at-end front (sq o r.axis ∷ rest) (length l.variables) 0 o.one (omega (arith, h.variables)) in
+      subst (λ ms. Placed (place_of o f n) (place_at o (front ++ (ms ++ rest)) (next l, coordinate.Zero))) (sym e)
+      (subst (λ z. Placed (place_of o f n) (z, o.zero)) (sym first) (second-placed L f frees n u)))
 
   laid-third : (n : ℕ) (l : Layout) → Laid n l → Neither n → Laid (suc n) (with_place (next l) (next (with_u l)) (with_u (with_u l)))
   laid-third n l h other =
@@ -306,26 +306,23 @@ module _ {M : Type 0} {o : Operations M} (L : IsCommutativeRing o) (f : Figure M
       subst (λ i. After i todo (free_point l)) e (free n todo l (subst (λ i. AllFrom i todo) (sym e) j) laid here)
   step new.SemiFree n m ps todo l h j laid s =
       let here = subst (λ rs. Seen n (rs ++ todo) l.frees) h.1 s in
-      let e : suc n ≡ m = omega (arith, h.0) in
-      (
+      let e : suc n ≡ m = omega (arith, h.0) in (
         subst (λ i. Laid i (semi_free_point l)) e (laid-semi_free n l laid (neither n m n todo l.frees here (omega arith) (omega (arith, h.0)) j)),
         seen-more n m todo l.frees (omega (arith, h.0)) here,
       )
   step new.Dependent n m ps todo l h j laid s =
       let here = subst (λ rs. Seen n (rs ++ todo) l.frees) h.1 s in
-      let e : suc n ≡ m = omega (arith, h.0) in
-      (
+      let e : suc n ≡ m = omega (arith, h.0) in (
         subst (λ i. Laid i (dependent_point l)) e (laid-dependent n l laid (neither n m n todo l.frees here (omega arith) (omega (arith, h.0)) j)),
         seen-more n m todo l.frees (omega (arith, h.0)) here,
       )
   step new.TwoDependent n m ps todo l h j laid s =
       let here = subst (λ rs. Seen n (rs ++ todo) l.frees) h.1 s in
-      let e : suc (suc n) ≡ m = omega (arith, h.0) in
-      (
+      let e : suc (suc n) ≡ m = omega (arith, h.0) in (
         subst (λ i. Laid i (dependent_point (dependent_point l))) e
-        (laid-dependent (suc n) (dependent_point l)
-        (laid-dependent n l laid (neither n m n todo l.frees here (omega arith) (omega (arith, h.0)) j))
-        (neither n m (suc n) todo l.frees here (omega arith) (omega (arith, h.0)) j)),
+            (laid-dependent (suc n) (dependent_point l)
+            (laid-dependent n l laid (neither n m n todo l.frees here (omega arith) (omega (arith, h.0)) j))
+            (neither n m (suc n) todo l.frees here (omega arith) (omega (arith, h.0)) j)),
         seen-more n m todo l.frees (omega (arith, h.0)) here,
       )
 

@@ -6,3 +6,4 @@ pub mod Placed
 pub mod Flat
 pub mod Sizes
 pub mod Counting
+pub mod Before

@@ -7,17 +7,20 @@ use Rattle.placement.specs.Placing.{frame}
 use Rattle.poly_model.specs.Solve.{Var, Add, Mul, Neg, solve}
 use Rattle.poly_model.specs.Solve as expression
 use Rattle.algebraize.specs.Vectors.{minus}
-use Rattle.placement.specs.Laws.{PlacementKeepsConstructions, PlacementKeepsStatements, OneFreePointIsMoved, placed}
+use Rattle.placement.specs.Laws.{PlacementKeepsCommands, PlacementKeepsConstructions, PlacementKeepsStatements, OneFreePointIsMoved, placed}
 use Rattle.placement.proofs.Turned.{Along, Across}
 use Rattle.placement.proofs.Figures as figures
 use Rattle.placement.proofs.Layouts.{figure-placed}
 
 module _ {M : Type 0} {o : Operations M} (D : IsDomain o) where
-  pub constructions : PlacementKeepsConstructions o
-  constructions acts f follow far =
+  pub commands : PlacementKeepsCommands o
+  commands acts f follow far =
       let r = frame o acts f in
       figures.same-acts D r.origin r.axis far (after_all nothing acts).points f (placed o acts f) no_curves no_curves nothing acts
       (figure-placed D.ring acts f follow) (record { lines = tt; circles = tt; count = refl }) follow (omega arith)
+
+  pub constructions : PlacementKeepsConstructions o
+  constructions acts f follow far = figures.alike-all o f (placed o acts f) no_curves no_curves acts (commands acts f follow far)
 
   pub statements : PlacementKeepsStatements o
   statements acts f s points follow far made =

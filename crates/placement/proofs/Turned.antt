@@ -133,11 +133,11 @@ module _ {M : Type 0} {o : Operations M} (L : IsCommutativeRing o) (origin axis 
       let along : dot o axis p ≡ o.zero = sym h.first ∙ a in
       let across : cross o axis p ≡ o.zero = sym h.second ∙ b in (
         solve L (axis.0 ∷ axis.1 ∷ p.0 ∷ p.1 ∷ []) (Mul (Square (Var 0) (Var 1)) (Var 2)) (Less (Mul (Var 0) (T0 (Var 2) (Var 3))) (Mul (Var 1) (T1 (Var 2) (Var 3)))) refl
-        ∙ (λ i. o.add (o.mul axis.0 (along i)) (o.neg (o.mul axis.1 (across i))))
-        ∙ solve L (axis.0 ∷ axis.1 ∷ []) (Less (Mul (Var 0) expression.Zero) (Mul (Var 1) expression.Zero)) expression.Zero refl,
+            ∙ (λ i. o.add (o.mul axis.0 (along i)) (o.neg (o.mul axis.1 (across i))))
+            ∙ solve L (axis.0 ∷ axis.1 ∷ []) (Less (Mul (Var 0) expression.Zero) (Mul (Var 1) expression.Zero)) expression.Zero refl,
         solve L (axis.0 ∷ axis.1 ∷ p.0 ∷ p.1 ∷ []) (Mul (Square (Var 0) (Var 1)) (Var 3)) (Add (Mul (Var 1) (T0 (Var 2) (Var 3))) (Mul (Var 0) (T1 (Var 2) (Var 3)))) refl
-        ∙ (λ i. o.add (o.mul axis.1 (along i)) (o.mul axis.0 (across i)))
-        ∙ solve L (axis.0 ∷ axis.1 ∷ []) (Add (Mul (Var 1) expression.Zero) (Mul (Var 0) expression.Zero)) expression.Zero refl,
+            ∙ (λ i. o.add (o.mul axis.1 (along i)) (o.mul axis.0 (across i)))
+            ∙ solve L (axis.0 ∷ axis.1 ∷ []) (Add (Mul (Var 1) expression.Zero) (Mul (Var 0) expression.Zero)) expression.Zero refl,
       )
 
   -- how often places count

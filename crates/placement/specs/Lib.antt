@@ -1,4 +1,3 @@
 pub mod Placing
-pub mod Small
 pub mod Images
 pub mod Laws

@@ -10,8 +10,35 @@ use Rattle.algebraize.specs.Figure.{Figure, place_of}
 
 -- The number of the free point that a command makes.
 abbrev pub free_in : Deed → List ℕ
+free_in (deed.Dim w h) = []
+free_in (deed.Color r g b) = []
+free_in (deed.Prooflevel n) = []
+free_in (deed.Prooflimit n) = []
+free_in (deed.ProverTimeout n) = []
 free_in (deed.Point p x y) = p ∷ []
-free_in _ = []
+free_in (deed.Line l a b) = []
+free_in (deed.Circle k a b) = []
+free_in (deed.Intersec x a b) = []
+free_in (deed.CutLine x y k l) = []
+free_in (deed.CutCircle x y k m) = []
+free_in (deed.Midpoint m a b) = []
+free_in (deed.Med l a b) = []
+free_in (deed.Perp p a l) = []
+free_in (deed.Parallel p a l) = []
+free_in (deed.Foot p a l) = []
+free_in (deed.Online x a b) = []
+free_in (deed.Oncircle x a b) = []
+free_in (deed.Translate x a b c) = []
+free_in (deed.Towards x a b t) = []
+free_in (deed.Drawpoint a) = []
+free_in (deed.Drawsegment a b) = []
+free_in (deed.Drawdashsegment a b) = []
+free_in (deed.Drawline l) = []
+free_in (deed.Drawcircle k) = []
+free_in (deed.Cmark a) = []
+free_in (deed.CmarkAt s a) = []
+free_in (deed.Mark s a) = []
+free_in (deed.Prove s points) = []
 
 -- The numbers of the free points, in order of definition.
 unfoldable pub free_points : List Act → List ℕ

@@ -1,12 +1,12 @@
 // Vectors of small whole numbers, and the frame in which a figure is seen.
 ghost use Rattle.std.specs.Prelude.{◌≡◌, ◌≤◌, ◌++◌, IfOk, unsigned_abs};
 ghost use Rattle.poly_model.specs.Domain.{integers};
+ghost use Rattle.gcl_reader.specs.Figure.{IsSmall, AreSmall};
+ghost use Rattle.gcl_reader.specs.declared.limits.TheConstants.{MOST_COORDINATE};
 ghost use Rattle.algebraize.specs.Vectors.{minus, dot, cross};
 ghost use Rattle.algebraize.specs.Figure.{place_of};
 ghost use Rattle.placement.specs.Placing.{free_points, frame_of, frame_with, is_first, is_second};
 ghost use Rattle.placement.specs.Images.{are_same, is_flat};
-ghost use Rattle.placement.specs.Small.{IsSmall, AreSmall};
-ghost use Rattle.placement.specs.declared.image.TheConstants.{MOST_COORDINATE};
 ghost use Rattle.placement.specs.declared.image.TheConstants.{MOST_IMAGE};
 
 use edge_num::Whole;

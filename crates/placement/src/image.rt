@@ -1,24 +1,21 @@
 // The image point of a figure of whole numbers.
-ghost use Rattle.std.specs.Prelude.{◌≡◌, ◌≤◌, ◌<◌, ◌+◌, ◌++◌, [], ◌∷◌, IfOk, OnOk, IsTrue, length, unsigned_abs};
-ghost use Rattle.std.specs.List.{list_all};
+ghost use Rattle.std.specs.Prelude.{◌≡◌, ◌≤◌, ◌++◌, [], ◌∷◌, IfOk, OnOk, unsigned_abs};
 ghost use Rattle.poly_model.specs.Domain.{integers};
-ghost use Rattle.poly_model.specs.Standard.{is_bounded};
 ghost use Rattle.gcl_names.specs.Sound.{AllFollow, IsSound, after_all, nothing};
-ghost use Rattle.placement.specs.declared.image.TheConstants.{MOST_COORDINATE};
+ghost use Rattle.gcl_reader.specs.Figure.{AreSmall, IsSmall};
+ghost use Rattle.gcl_reader.specs.declared.limits.TheConstants.{MOST_COORDINATE};
 ghost use Rattle.gcl_names.specs.declared.limits.TheConstants.{MOST_POINTS};
 ghost use Rattle.placement.specs.Placing.{frame_of, frame_with, listed, listed_to};
 ghost use Rattle.placement.specs.Images.{AreBounded, IsBounded, count_of, image_before, image_of};
-ghost use Rattle.placement.specs.Small.{AreSmall, IsSmall};
 
-use crate::frame::{cross, dot, frame_of, free_points, is_first, is_flat, is_second, minus, place_of};
+use crate::frame::{
+    cross, dot, frame_of, free_points, is_first, is_flat, is_second, minus, place_of,
+};
 use algebraize::{NewPoints, acts_before, new_points};
 use edge_num::Whole;
 use gcl_names::{Act, Program};
 use poly_model::Row;
 use std::alloc::{AllocError, Global};
-
-/// The greatest size of a coordinate.
-pub const MOST_COORDINATE: u64 = 1_000_000;
 
 /// The greatest size of a member of an image point.
 pub const MOST_IMAGE: u64 = 8_000_000_000_000;
@@ -120,11 +117,7 @@ fn image_point(
 }
 
 /// Where a figure of whole numbers comes to stand that has these acts constructed.
-fn image_before(
-    alloc: Global,
-    acts: &[Act],
-    figure: &[(i64, i64)],
-) -> Result<Image, AllocError>
+fn image_before(alloc: Global, acts: &[Act], figure: &[(i64, i64)]) -> Result<Image, AllocError>
     requires small { AreSmall figure.now }
     requires follow { AllFollow nothing acts.now }
     requires few { (after_all nothing acts.now).points ≤ MOST_POINTS }
@@ -139,8 +132,8 @@ fn image_before(
     Ok(Image::Point(Row::from_vec(point)))
 }
 
-/// Where a figure of whole numbers comes to stand that has constructed what stands before a prove, counted from 0. It has a
-/// place for each point of the program.
+/// Where a figure of whole numbers comes to stand that has constructed what stands before a prove, counted from 0; before
+/// the end, where there is no such prove. A point for which it has no place is at the origin.
 pub fn image_of(
     alloc: Global,
     program: &Program,
@@ -148,8 +141,6 @@ pub fn image_of(
     figure: &[(i64, i64)],
 ) -> Result<Image, AllocError>
     requires sound { IsSound program.now }
-    requires prove { prove < program.now.proves }
-    requires places { length figure.now ≡ length program.now.points }
     requires small { AreSmall figure.now }
     ensures value { IfOk result (λ i. i ≡ image_of program.now.acts prove figure.now) }
     ensures bounded { IfOk result IsBounded }

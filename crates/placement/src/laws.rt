@@ -1,9 +1,14 @@
 // What placement keeps, over every domain.
-ghost use Rattle.placement.specs.Laws.{FlatCannotBePlaced, PlacementKeepsConstructions, PlacementKeepsStatements, OneFreePointIsMoved};
+ghost use Rattle.placement.specs.Laws.{FlatCannotBePlaced, OneFreePointIsMoved, PlacementKeepsCommands, PlacementKeepsConstructions, PlacementKeepsStatements};
 
 use poly_model::Domain;
 
-/// A figure meets what it constructs exactly if it does when it is placed.
+/// A figure meets each command exactly if it does when it is placed.
+pub fn placement_keeps_commands<D: Domain>(_domain: &D)
+    ensures { PlacementKeepsCommands D.operations }
+{}
+
+/// It meets all that it constructs exactly if it does when it is placed.
 pub fn placement_keeps_constructions<D: Domain>(_domain: &D)
     ensures { PlacementKeepsConstructions D.operations }
 {}

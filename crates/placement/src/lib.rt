@@ -5,8 +5,8 @@ mod frame;
 mod image;
 mod laws;
 
-pub use image::{Image, MOST_COORDINATE, MOST_IMAGE, image_of};
+pub use image::{Image, MOST_IMAGE, image_of};
 pub use laws::{
-    flat_figures_cannot_be_placed, one_free_point_is_moved, placement_keeps_constructions,
-    placement_keeps_statements,
+    flat_figures_cannot_be_placed, one_free_point_is_moved, placement_keeps_commands,
+    placement_keeps_constructions, placement_keeps_statements,
 };

@@ -1,7 +1,7 @@
 use Rattle.std.proofs.Common.{sym, subst}
 use Rattle.std.specs.Prelude.{pos}
-use Rattle.placement.specs.Small.{IsSmall}
-use Rattle.placement.specs.declared.image.TheConstants.{MOST_COORDINATE}
+use Rattle.gcl_reader.specs.Figure.{IsSmall}
+use Rattle.gcl_reader.specs.declared.limits.TheConstants.{MOST_COORDINATE}
 use Rattle.placement.proofs.Sizes.{small-or}
 use Rattle.placement.proofs.frame.place_of.Goals as goal
 
