@@ -1,5 +1,5 @@
 -- What stands before a prove in a sound list of acts.
-use Rattle.std.proofs.Common.{◌≡◌, ◌≤◌, ◌+◌, ◌-◌, ◌==◌, ℕ, zero, suc, List, [], ◌∷◌, length, take, Bool, true, false, if◌then◌else◌, arith}
+use Rattle.std.proofs.Common.{◌≤◌, ◌+◌, ◌-◌, ◌==◌, ℕ, zero, suc, List, [], ◌∷◌, length, take, Bool, true, false, if◌then◌else◌, arith}
 use Rattle.gcl_names.specs.declared.program.Act.{Act}
 use Rattle.gcl_names.specs.Sound.{Counts, AllFollow, after, after_all}
 use Rattle.algebraize.specs.Problem.{is_prove, acts_before}

@@ -1,8 +1,7 @@
 -- How many points commands make.
 use Rattle.std.proofs.Common.{◌≡◌, ◌≤◌, ◌+◌, ℕ, List, [], ◌∷◌, length, sym, ◌∙◌, ap, subst, arith}
 use Rattle.gcl_names.specs.declared.program.Act.{Act}
-use Rattle.gcl_names.specs.declared.program.Deed.{Deed}
-use Rattle.gcl_names.specs.Sound.{Counts, AllFollow, Follows, after, after_all, nothing}
+use Rattle.gcl_names.specs.Sound.{Counts, AllFollow, after, after_all, nothing}
 use Rattle.algebraize.specs.Layout.{new_points}
 use Rattle.algebraize.specs.declared.points.NewPoints.{NewPoints}
 use Rattle.algebraize.specs.declared.points.NewPoints.TheVariants as new

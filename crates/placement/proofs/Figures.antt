@@ -1,5 +1,5 @@
 -- A sound program's commands say the same of a figure and of the figure moved and turned.
-use Rattle.std.proofs.Common.{◌≡◌, ◌≢◌, ◌≤◌, ◌<◌, ◌+◌, ℕ, zero, suc, List, [], ◌∷◌, ◌++◌, get_or, map, length, length-append, refl, sym, ◌∙◌, ap, arith}
+use Rattle.std.proofs.Common.{◌≡◌, ◌≢◌, ◌≤◌, ◌<◌, ◌+◌, ℕ, zero, suc, List, [], ◌∷◌, ◌++◌, get_or, map, length, length-append, arith}
 use Rattle.std.specs.Prelude.{◌↔◌, pos}
 use Rattle.poly_model.specs.Domain.{Operations, IsDomain}
 use Rattle.gcl_reader.specs.declared.word.Statement.{Statement}
@@ -9,8 +9,8 @@ use Rattle.gcl_names.specs.declared.program.Deed.{Deed}
 use Rattle.gcl_names.specs.declared.program.Deed.TheVariants as deed
 use Rattle.gcl_names.specs.Sound.{Counts, Follows, AllFollow, AreMade, after, after_all}
 use Rattle.algebraize.specs.Vectors.{Vector, sq}
-use Rattle.algebraize.specs.Curves.{Line, Circle, Curves, no_line, no_circle, no_curves}
-use Rattle.algebraize.specs.Figure.{Figure, Effect, Nothing, NewLine, NewCircle, Conditions, effect, conditions, with_effect, place_of, stated, over_two, over_three, over_four, conclusion, MeetsFrom, MeetsStatement}
+use Rattle.algebraize.specs.Curves.{Line, Circle, Curves, no_line, no_circle}
+use Rattle.algebraize.specs.Figure.{Figure, Effect, Nothing, NewLine, NewCircle, Conditions, effect, conditions, with_effect, place_of, stated, over_two, over_three, over_four, MeetsFrom, MeetsStatement}
 use Rattle.algebraize.specs.Ratio.{numerator, denominator}
 use Rattle.placement.specs.Laws.{MeetAlikeFrom}
 use Rattle.placement.proofs.Rows as rows

@@ -1,5 +1,5 @@
 -- Of whole numbers exactly the flat figures cannot be placed.
-use Rattle.std.proofs.Common.{◌≡◌, ◌≢◌, ℕ, List, [], ◌∷◌, refl, sym, ◌∙◌, ap, arith, Bool, true, false, inl, inr}
+use Rattle.std.proofs.Common.{◌≡◌, ℕ, List, [], ◌∷◌, refl, ◌∙◌, ap, arith, true, false, inl, inr}
 use Rattle.std.specs.Prelude.{ℤ, pos, neg_ℤ, ◌↔◌}
 use Rattle.std.specs.Ordering.{int_eq}
 use Rattle.std.proofs.lemmas.Bool.{and_parts, and_from, both_ways}
@@ -12,9 +12,9 @@ use Rattle.poly_model.specs.Solve.{Var, Add, Mul, Neg, solve}
 use Rattle.poly_model.specs.Solve as expression
 use Rattle.algebraize.specs.Vectors.{Vector, minus, sq}
 use Rattle.algebraize.specs.Figure.{Figure, place_of}
-use Rattle.placement.specs.Placing.{frame_of, free_points}
+use Rattle.placement.specs.Placing.{free_points}
 use Rattle.placement.specs.Images.{are_same, is_flat}
-use Rattle.placement.specs.Laws.{FlatCannotBePlaced}
+use Rattle.placement.specs.Laws.{AreApart, FlatCannotBePlaced}
 
 -- a square is zero only of nothing: it is the vector times its mirror image, as Gaussian integers
 square-zero : (v : Vector ℤ) → sq integers v ≡ pos 0 → (v.0 ≡ pos 0) × (v.1 ≡ pos 0)
@@ -49,12 +49,9 @@ square-same p q h =
     let y : p.1 ≡ q.1 = let a = z.1 in omega (arith, ints, a) in
     and_from (int_eq p.0 q.0) (int_eq p.1 q.1) ((Decides-int_eq p.0 q.0).1 x) ((Decides-int_eq p.1 q.1).1 y)
 
-one-not_zero : pos 1 ≡ pos 0 → ⊥
-one-not_zero e = cc
-
-flat : (f : Figure ℤ) (frees : List ℕ) → (is_flat f frees ≡ false) ↔ (sq integers (frame_of integers f frees).axis ≢ pos 0)
-flat f [] = ((λ h. one-not_zero), (λ h. refl))
-flat f (a ∷ []) = ((λ h. one-not_zero), (λ h. refl))
+flat : (f : Figure ℤ) (frees : List ℕ) → (is_flat f frees ≡ false) ↔ AreApart integers f frees
+flat f [] = ((λ h. tt), (λ h. refl))
+flat f (a ∷ []) = ((λ h. tt), (λ h. refl))
 flat f (a ∷ b ∷ others) =
     let p = place_of integers f a in
     let q = place_of integers f b in (

@@ -1,10 +1,8 @@
 -- The figure at the image point is the figure moved and turned.
-use Rattle.std.proofs.Common.{◌≡◌, ◌≤◌, ◌<◌, ◌+◌, ◌==◌, ℕ, zero, suc, List, [], ◌∷◌, ◌++◌, get_or, map, length, length-append, refl, sym, ◌∙◌, ap, subst, arith, Bool, true, false, if◌then◌else◌, inl, inr}
+use Rattle.std.proofs.Common.{◌≡◌, ◌≤◌, ◌<◌, ◌+◌, ◌==◌, ℕ, zero, suc, List, [], ◌∷◌, ◌++◌, get_or, map, length, length-append, refl, sym, ◌∙◌, ap, subst, arith, true, false, if◌then◌else◌, inl, inr}
 use Rattle.std.specs.Prelude.{◌⊎◌}
 use Rattle.std.proofs.lemmas.Bool.Decides.{nat_tests}
 use Rattle.poly_model.specs.Domain.{Operations, IsCommutativeRing}
-use Rattle.poly_model.specs.Solve.{Expression, Var, Add, Mul, Neg, solve}
-use Rattle.poly_model.specs.Solve as expression
 use Rattle.gcl_names.specs.declared.program.Act.{Act}
 use Rattle.gcl_names.specs.declared.program.Deed.{Deed}
 use Rattle.gcl_names.specs.declared.program.Deed.TheVariants as deed
@@ -13,9 +11,9 @@ use Rattle.algebraize.specs.declared.layout.Coordinate.{Coordinate}
 use Rattle.algebraize.specs.declared.layout.Coordinate.TheVariants as coordinate
 use Rattle.algebraize.specs.declared.points.NewPoints.{NewPoints}
 use Rattle.algebraize.specs.declared.points.NewPoints.TheVariants as new
-use Rattle.algebraize.specs.Vectors.{Vector, coordinates, minus, dot, cross, sq}
+use Rattle.algebraize.specs.Vectors.{Vector, coordinates, minus, sq}
 use Rattle.algebraize.specs.Figure.{Figure, place_of}
-use Rattle.algebraize.specs.Layout.{Layout, layout_of, layout_from, new_points, with_points, free_point, semi_free_point, dependent_point, empty, next, with_u, with_x, with_place, coordinate_at, place_at, figure_at}
+use Rattle.algebraize.specs.Layout.{Layout, layout_of, layout_from, new_points, with_points, free_point, semi_free_point, dependent_point, empty, next, with_u, with_x, with_place, place_at, figure_at}
 use Rattle.placement.specs.Placing.{Frame, frame_of, free_in, free_points, image, is_first, is_second, listed, listed_to, frame, image_point}
 use Rattle.placement.proofs.Turned as turn
 use Rattle.placement.proofs.Turned.{Less, Along, Across}

@@ -7,3 +7,4 @@ pub mod Flat
 pub mod Sizes
 pub mod Counting
 pub mod Before
+mod Worked

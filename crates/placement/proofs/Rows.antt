@@ -1,10 +1,9 @@
 -- What each construction and each statement makes zero is zero of places exactly where it is of the places moved and turned.
-use Rattle.std.proofs.Common.{◌≡◌, ◌≢◌, ℕ, zero, suc, [], ◌∷◌, ◌++◌, get_or, refl, sym, ◌∙◌, ap}
+use Rattle.std.proofs.Common.{◌≡◌, ◌≢◌, [], ◌∷◌, sym, ◌∙◌, ap}
 use Rattle.std.specs.Prelude.{◌↔◌, ℤ, List}
 use Rattle.poly_model.specs.Domain.{Operations, IsDomain, integer_in}
 use Rattle.poly_model.specs.Ring as ring
-use Rattle.poly_model.specs.Solve.{Expression, Var, Add, Mul, Neg, solve}
-use Rattle.algebraize.specs.Vectors.{Vector, coordinates, plus, minus, twice, times, dot, cross, rot, sq, sq_difference}
+use Rattle.algebraize.specs.Vectors.{Vector, coordinates, minus, dot, cross, rot, sq, sq_difference}
 use Rattle.algebraize.specs.Curves.{Line, Circle, no_line, line_along, line_across, bisector}
 use Rattle.algebraize.specs.Figure.{AreZero}
 use Rattle.algebraize.specs.Rows as row

@@ -1,13 +1,12 @@
 -- Vectors along and across an axis: a sum of places in which they count to zero is turned, and what is formed of turned vectors
 -- is scaled by the square of the axis.
 use Rattle.std.proofs.Common.{◌≡◌, ◌≢◌, [], ◌∷◌, refl, sym, ◌∙◌, ap, inl, inr}
-use Rattle.std.specs.Prelude.{◌↔◌, List}
+use Rattle.std.specs.Prelude.{List}
 use Rattle.poly_model.specs.Domain.{Operations, IsCommutativeRing, IsDomain}
 use Rattle.poly_model.specs.Ring as ring
 use Rattle.poly_model.specs.Solve.{Expression, Var, Add, Mul, Neg, solve}
 use Rattle.poly_model.specs.Solve as expression
-use Rattle.algebraize.specs.Vectors.{Vector, coordinates, plus, minus, times, dot, cross, rot, sq, sq_difference}
-use Rattle.algebraize.specs.Figure.{AreZero}
+use Rattle.algebraize.specs.Vectors.{Vector, plus, minus, times, dot, cross, rot, sq, sq_difference}
 
 abbrev pub Less : Expression → Expression → Expression
 Less a b = Add a (Neg b)

@@ -6,14 +6,20 @@ use Rattle.gcl_names.specs.declared.program.Act.{Act}
 use Rattle.gcl_names.specs.Sound.{AllFollow, AreMade, after_all, nothing}
 use Rattle.algebraize.specs.Vectors.{Vector, minus, sq}
 use Rattle.algebraize.specs.Curves.{Curves, no_curves}
-use Rattle.algebraize.specs.Figure.{Figure, effect, conditions, with_effect, AreZero, Meets, MeetsStatement}
+use Rattle.algebraize.specs.Figure.{Figure, place_of, effect, conditions, with_effect, AreZero, Meets, MeetsStatement}
 use Rattle.algebraize.specs.Layout.{figure_at}
-use Rattle.placement.specs.Placing.{free_points, image, frame, image_point}
+use Rattle.placement.specs.Placing.{free_points, image, image_point}
 use Rattle.placement.specs.Images.{is_flat}
 
--- The square of the axis is not zero: the first two free points are at a distance that is not zero, or there are fewer.
+-- The first two of these points are at a distance whose square is not zero. Where there are fewer, nothing is asked.
+abbrev pub AreApart : {M : Type 0} → Operations M → Figure M → List ℕ → Type 0
+AreApart o f [] = Unit {0}
+AreApart o f (a ∷ []) = Unit {0}
+AreApart o f (a ∷ b ∷ others) = sq o (minus o (place_of o f b) (place_of o f a)) ≢ o.zero
+
+-- The first two free points are apart.
 abbrev pub CanBePlaced : {M : Type 0} → Operations M → List Act → Figure M → Type 0
-CanBePlaced o acts f = sq o (frame o acts f).axis ≢ o.zero
+CanBePlaced o acts f = AreApart o f (free_points acts)
 
 -- The figure at the image point.
 abbrev pub placed : {M : Type 0} → Operations M → List Act → Figure M → Figure M

@@ -1,4 +1,4 @@
-use Rattle.std.proofs.Common.{◌≡◌, ◌≤◌, length, sym, ap, subst, arith}
+use Rattle.std.proofs.Common.{◌≤◌, length, sym, ap, subst, arith}
 use Rattle.std.proofs.lemmas.List.{length-take-le}
 use Rattle.gcl_names.specs.Sound.{Counts, AllFollow, after_all, nothing}
 use Rattle.placement.proofs.Before.{follow-take, points-take, place-within}

@@ -1,4 +1,4 @@
-use Rattle.std.proofs.Common.{◌≡◌, ◌≤◌, ◌+◌, ◌++◌, [], suc, sym, ◌∙◌, ap, subst, arith, refl}
+use Rattle.std.proofs.Common.{◌≡◌, ◌+◌, ◌++◌, suc, sym, ◌∙◌, ap, subst, arith, refl}
 use Rattle.poly_model.specs.Domain.{integers}
 use Rattle.placement.specs.Images.{AreBounded}
 use Rattle.placement.specs.Placing.{frame_with, listed, listed_to}

@@ -1,8 +1,8 @@
-use Rattle.std.proofs.Common.{◌≡◌, ◌+◌, ◌≤◌, ◌∙◌, ap, arith, refl, sym}
+use Rattle.std.proofs.Common.{◌≡◌, ◌∙◌, ap, arith, refl, sym}
 use Rattle.gcl_names.specs.Sound.{nothing}
 use Rattle.algebraize.specs.Layout.{new_points}
 use Rattle.placement.specs.Images.{count_of}
-use Rattle.placement.proofs.Counting.{Left, left-next, left-few, left-none}
+use Rattle.placement.proofs.Counting.{left-next, left-few, left-none}
 use Rattle.placement.proofs.image.points_made.Goals as goal
 
 pub loop-act-init : goal.loop-act-init
