@@ -7,4 +7,5 @@ pub mod Flat
 pub mod Sizes
 pub mod Counting
 pub mod Before
+pub mod ClaimsCarried
 mod Worked

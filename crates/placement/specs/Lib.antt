@@ -1,3 +1,4 @@
 pub mod Placing
 pub mod Images
 pub mod Laws
+pub mod Carrying

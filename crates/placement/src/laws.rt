@@ -1,4 +1,5 @@
 // What placement keeps, over every domain.
+ghost use Rattle.placement.specs.Carrying.{CarriedIsMet};
 ghost use Rattle.placement.specs.Laws.{FlatCannotBePlaced, OneFreePointIsMoved, PlacementKeepsCommands, PlacementKeepsConstructions, PlacementKeepsStatements};
 
 use poly_model::Domain;
@@ -26,4 +27,9 @@ pub fn one_free_point_is_moved<D: Domain>(_domain: &D)
 /// Of whole numbers exactly the flat figures cannot be placed.
 pub fn flat_figures_cannot_be_placed()
     ensures { FlatCannotBePlaced }
+{}
+
+/// Where a claim that is so tells of a figure that it holds, the figure meets the commands before the prove, and its statement.
+pub fn carried_is_met()
+    ensures { CarriedIsMet }
 {}

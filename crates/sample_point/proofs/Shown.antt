@@ -104,11 +104,11 @@ other-there point p h = go (value_in p point) refl h
         differ true s u = cc
         differ false s u = cc
 
-all-zero : (point : List ℤ) (ps : List Polynomial) → list_all (has_zero point) ps ≡ true → AllZero integers ps point
+pub all-zero : (point : List ℤ) (ps : List Polynomial) → list_all (has_zero point) ps ≡ true → AllZero integers ps point
 all-zero point [] h = tt
 all-zero point (p ∷ ps) h = let a = and_parts (has_zero point p) _ h in (zero-there point p a.0, all-zero point ps a.1)
 
-none-zero : (point : List ℤ) (ps : List Polynomial) → list_all (has_other point) ps ≡ true → NoneZero integers ps point
+pub none-zero : (point : List ℤ) (ps : List Polynomial) → list_all (has_other point) ps ≡ true → NoneZero integers ps point
 none-zero point [] h = tt
 none-zero point (p ∷ ps) h = let a = and_parts (has_other point p) _ h in (other-there point p a.0, none-zero point ps a.1)
 

@@ -15,3 +15,4 @@ pub use evaluation::value;
 pub use finding::find;
 pub use found::Found;
 pub use laws::{conditions_are_of_the_generic_leaf, found_points_show};
+pub use tests_of_points::{all_other, all_valued, all_zero};

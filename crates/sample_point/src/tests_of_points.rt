@@ -35,21 +35,24 @@ fn has_other(point: &[i128], p: &OwnedPoly) -> bool
     }
 }
 
-fn all_zero(point: &[i128], ps: &[OwnedPoly]) -> bool
+/// All of these are 0 at the point.
+pub fn all_zero(point: &[i128], ps: &[OwnedPoly]) -> bool
     requires { IsTrue (list_all is_bounded point.now) }
     ensures { result ≡ list_all (has_zero point.now) ps.now }
 {
     ps.iter().all(|p| has_zero(point, p))
 }
 
-fn all_other(point: &[i128], ps: &[OwnedPoly]) -> bool
+/// None of these is 0 at the point, and each has a value in bounds.
+pub fn all_other(point: &[i128], ps: &[OwnedPoly]) -> bool
     requires { IsTrue (list_all is_bounded point.now) }
     ensures { result ≡ list_all (has_other point.now) ps.now }
 {
     ps.iter().all(|p| has_other(point, p))
 }
 
-fn all_valued(point: &[i128], ps: &[OwnedPoly]) -> bool
+/// All of these have values in bounds at the point.
+pub fn all_valued(point: &[i128], ps: &[OwnedPoly]) -> bool
     requires { IsTrue (list_all is_bounded point.now) }
     ensures { result ≡ list_all (has_value point.now) ps.now }
 {
