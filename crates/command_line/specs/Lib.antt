@@ -18,4 +18,5 @@ pub mod Drawn
 pub mod Assured
 pub mod Figures
 pub mod Carrying
+pub mod CarryStages
 pub mod Headline

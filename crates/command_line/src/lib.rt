@@ -2,9 +2,9 @@
 #![tactic(auto)]
 
 mod asked;
+mod carried_lines;
 mod carry;
 mod carrying;
-mod carried_lines;
 mod check;
 mod checking;
 mod comparing;

@@ -32,13 +32,13 @@ at-point : (hyps cs : List Polynomial) (point : List ℤ) → told_at hyps cs po
     → (list_all (has_zero point) hyps ≡ true) × (list_all (has_other point) cs ≡ true)
 at-point hyps cs point h =
     by (list_all (has_value point) hyps && list_all (has_value point) cs) (list_all (has_zero point) hyps) (list_all (has_other point) cs) h where
-  by : (values zeros others : Bool)
-      → (if values then (if zeros then (if others then carried.Holds else carried.SideCondition) else carried.NoFigure) else carried.Past) ≡ carried.Holds
-      → (zeros ≡ true) × (others ≡ true)
-  by true true true e = (refl, refl)
-  by true true false e = cc
-  by true false others e = cc
-  by false zeros others e = cc
+      by : (values zeros others : Bool)
+          → (if values then (if zeros then (if others then carried.Holds else carried.SideCondition) else carried.NoFigure) else carried.Past) ≡ carried.Holds
+          → (zeros ≡ true) × (others ≡ true)
+      by true true true e = (refl, refl)
+      by true true false e = cc
+      by true false others e = cc
+      by false zeros others e = cc
 
 -- where it holds of a figure, that comes to stand somewhere
 stands : (acts : List Act) (f : Figure ℤ) (hyps cs : List Polynomial) → told_of hyps cs (image_before acts f) ≡ carried.Holds

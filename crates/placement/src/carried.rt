@@ -66,11 +66,7 @@ fn claimed(
 {
     match image_of(alloc, program, prove, figure)? {
         Image::Flat => Ok(Carried::Flat),
-        Image::Point(point) => Ok(told_at(
-            problem.hyps.as_slice(),
-            conditions,
-            point.as_slice(),
-        )),
+        Image::Point(point) => Ok(told_at(problem.hyps.as_slice(), conditions, point.as_slice())),
     }
 }
 
@@ -93,7 +89,14 @@ pub fn carry(
     match verdict {
         Verdict::Proved => claimed(alloc, program, prove, figure, problem, &[]),
         Verdict::Under(conditions) => {
-            claimed(alloc, program, prove, figure, problem, conditions.as_slice())
+            claimed(
+                alloc,
+                program,
+                prove,
+                figure,
+                problem,
+                conditions.as_slice(),
+            )
         }
         Verdict::NotProved { .. } | Verdict::Degenerate(_) | Verdict::Left { .. } => {
             Ok(Carried::NoClaim)

@@ -9,6 +9,6 @@ mod laws;
 pub use carried::{Carried, carry};
 pub use image::{Image, MOST_IMAGE, image_of};
 pub use laws::{
-    carried_is_met, flat_figures_cannot_be_placed, one_free_point_is_moved, placement_keeps_commands,
-    placement_keeps_constructions, placement_keeps_statements,
+    carried_is_met, flat_figures_cannot_be_placed, one_free_point_is_moved,
+    placement_keeps_commands, placement_keeps_constructions, placement_keeps_statements,
 };
