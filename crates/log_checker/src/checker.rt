@@ -41,9 +41,9 @@ pub struct LineChecker {
     fuel: u32,
     hyps: Vec<OwnedPoly>,
     cons: Vec<OwnedPoly>,
-    part: Part,
+    pub part: Part,
     /// The nodes that wait for their pieces, the next one last.
-    waiting: Vec<Node>,
+    pub waiting: Vec<Node>,
     tally: Tally,
 }
 
