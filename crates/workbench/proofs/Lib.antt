@@ -9,3 +9,4 @@ pub mod Opened
 pub mod Copying
 pub mod Validity
 pub mod Putting
+pub mod Voided

@@ -1,5 +1,5 @@
 // Variables that divide polynomials, and polynomials from which they are divided out.
-ghost use Rattle.std.specs.Prelude.{◌≡◌, ◌≢◌, ◌<◌, ◌≤◌, ◌∷◌, [], length, map};
+ghost use Rattle.std.specs.Prelude.{◌≡◌, ◌≢◌, ◌<◌, ◌≤◌, ◌-◌, ◌∷◌, [], IfOk, length, map};
 ghost use Rattle.poly_model.specs.Polynomial.{poly_variable};
 ghost use Rattle.poly_model.specs.Powers.{is_divided, one_monomial, shares_variable, without_variables};
 ghost use Rattle.poly_model.specs.Reduction.{class_of};
@@ -10,8 +10,9 @@ ghost use Rattle.workbench.specs.Known.{all_have, cancel_number, cancels_in, fac
 ghost use Rattle.workbench.specs.Standing.{AreHeld};
 
 use crate::parts::{class_number, give_up};
-use poly_model::{MOST_VARIABLES, Term};
+use poly_model::{MOST_VARIABLES, OwnedPoly, Term};
 use polynomials::{Poly, copy, strip};
+use std::alloc::{AllocError, Global};
 use term_store::TermStore;
 
 /// Each of the terms has the variable at a place.
@@ -41,13 +42,27 @@ pub fn divides(terms: &[Term], var: u8) -> bool
 }
 
 /// The variable at a place, as a term.
-pub fn variable(var: u8) -> Term
+fn variable(var: u8) -> Term
     requires { var < MOST_VARIABLES }
     ensures { polynomial_of (result ∷ []) ≡ poly_variable MOST_VARIABLES var }
 {
     let mut exps = [0; MOST_VARIABLES];
     exps[var as usize] = 1;
     Term { coef: 1, exps }
+}
+
+/// The variable of a number as a polynomial.
+pub fn variable_of(alloc: Global, x: u8) -> Result<OwnedPoly, AllocError>
+    requires some { 1 ≤ x }
+    requires most { x ≤ MOST_VARIABLES }
+    ensures { IfOk result (λ p. p ≡ poly_variable MOST_VARIABLES (x - 1)) }
+{
+    let mut terms = Vec::new(alloc);
+    terms.push(variable(x - 1))?;
+    match OwnedPoly::from_terms(terms) {
+        Ok(p) => Ok(p),
+        Err(_) => unreachable!(),
+    }
 }
 
 /// The number of the variable that the polynomial of a class is.
