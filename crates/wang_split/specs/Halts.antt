@@ -20,13 +20,16 @@ abbrev pub is_step : Attempt → Bool
 is_step (attempt.Drop i) = true
 is_step (attempt.Red g f) = true
 is_step (attempt.Tail f) = true
+is_step (attempt.Cancel g q) = true
 is_step (attempt.Split f) = false
+is_step (attempt.Factor f) = false
 
 -- What ends the work on a node without a step: a rule that is tried there parts it.
 abbrev pub Stays : Next → Type 0
 Stays (due.Try a) = is_step a ≡ false
 Stays (due.Closed i) = Unit {0}
 Stays (due.Clashed i j) = Unit {0}
+Stays (due.Voided j f) = Unit {0}
 Stays due.Solved = Unit {0}
 
 -- This is due at the node and is no step, or is due there and stopped.
