@@ -9,7 +9,7 @@ ghost use Rattle.workbench.specs.Splitting.{Parts};
 ghost use Rattle.term_store.specs.Changes.{Keeps};
 ghost use Rattle.workbench.specs.Standing.{AreFound, AreHeld, Stands, beneath, node_at, poly_of};
 ghost use Rattle.poly_model.specs.Polynomial.{Polynomial};
-ghost use Rattle.wang_split.specs.Halts.{HaltedAt, IsFew, Stays, is_step};
+ghost use Rattle.wang_split.specs.Halts.{HaltedAt, IsFew, IsToldBy, Stays, gain_of, is_step};
 ghost use Rattle.workbench.specs.Dues.{next_of};
 ghost use Rattle.wang_split.specs.Expanded.{Rests};
 ghost use Rattle.proof_steps.specs.declared.version.TheConstants.{VERSION};
@@ -126,6 +126,45 @@ fn factored<S: TermStore>(
     factor(VERSION, alloc, s, bench, f, &v)
 }
 
+/// Parts a node by the rule that is due.
+fn part<S: TermStore>(
+    alloc: Global,
+    s: &mut S,
+    bench: &Bench,
+    attempt: Attempt,
+) -> Result<Parting, AllocError>
+    requires stands { Stands (beneath (S.state s.old) bench.now) (S.state s.old) [] bench.now }
+    requires valid { is_valid VERSION (node_at (S.state s.old) bench.now) attempt ≡ true }
+    requires parts { is_step attempt ≡ false }
+    requires room { EXPAND_UNITS ≤ (beneath (S.state s.old) bench.now).spare }
+    ensures kept { Keeps (S.state s.old) (S.state s.new) }
+    ensures parts { IfOk result (λ p. Parts (node_at (S.state s.old) bench.now)
+        (made VERSION (node_at (S.state s.old) bench.now) attempt)
+        (gain_of (node_at (S.state s.old) bench.now) attempt) p) }
+{
+    match attempt {
+        Attempt::Split(f) => split(VERSION, alloc, s, bench, f),
+        Attempt::Factor(f) => factored(alloc, s, bench, f),
+        Attempt::Drop(_) | Attempt::Red(_, _) | Attempt::Tail(_) | Attempt::Cancel(_, _) => {
+            unreachable!()
+        }
+    }
+}
+
+/// How a parting by the rule is told, with the condition that the first child gains.
+fn parting_outcome(attempt: Attempt, gain: OwnedPoly) -> Outcome
+    requires { is_step attempt ≡ false }
+    ensures { IsToldBy attempt gain result }
+{
+    match attempt {
+        Attempt::Split(f) => Outcome::Split { f, initial: gain },
+        Attempt::Factor(f) => Outcome::Factor { f, v: gain },
+        Attempt::Drop(_) | Attempt::Red(_, _) | Attempt::Tail(_) | Attempt::Cancel(_, _) => {
+            unreachable!()
+        }
+    }
+}
+
 /// The piece and the children of a node that is split or parted on a factor, or that is left open since that is
 /// stopped.
 fn parted<S: TermStore>(
@@ -143,17 +182,9 @@ fn parted<S: TermStore>(
     ensures rests { IfOk result (λ e. (cons : List Polynomial) →
         Rests cons (node_at (S.state s.old) bench.now) steps.items e) }
 {
-    let (parting, f) = match attempt {
-        Attempt::Split(f) => (split(VERSION, alloc, s, bench, f)?, f),
-        Attempt::Factor(f) => (factored(alloc, s, bench, f)?, f),
-        _ => unreachable!(),
-    };
-    match parting {
+    match part(alloc, s, bench, attempt)? {
         Parting::Parted { gain, plus, minus } => {
-            let outcome = match attempt {
-                Attempt::Factor(_) => Outcome::Factor { f, v: gain },
-                _ => Outcome::Split { f, initial: gain },
-            };
+            let outcome = parting_outcome(attempt, gain);
             Ok((bare(alloc, bench.path, steps, outcome), Some((plus, minus))))
         }
         Parting::Stopped(reason) => {
