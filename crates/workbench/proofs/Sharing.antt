@@ -14,30 +14,30 @@ sizes-more [] qs = omega arith
 sizes-more (p ∷ ps) qs = let e = sizes-more ps qs in omega (arith, e)
 
 -- what parts a node: the place, and the polynomials
-pub record Parting (n : Node) : Type 0 where
+pub record Changed (n : Node) : Type 0 where
   pub at : ℕ
   pub gain : Polynomial
   pub up : Polynomial
   pub down : Polynomial
   pub more : List Polynomial
 
-abbrev pub up_eqs : (n : Node) → Parting n → List Polynomial
+abbrev pub up_eqs : (n : Node) → Changed n → List Polynomial
 up_eqs n c = set n.eqs c.at c.up
 
-abbrev pub down_eqs : (n : Node) → Parting n → List Polynomial
+abbrev pub down_eqs : (n : Node) → Changed n → List Polynomial
 down_eqs n c = set n.eqs c.at c.down ++ c.more
 
-abbrev pub nodes : (n : Node) → Parting n → List Node
+abbrev pub nodes : (n : Node) → Changed n → List Node
 nodes n c = pair n c.at c.gain c.up c.down c.more
 
 -- the numbers that the code has: of terms of the condition, and the sizes of the children
-pub record Counted (n : Node) (c : Parting n) (gain p m : ℕ) : Type 0 where
+pub record Counted (n : Node) (c : Changed n) (gain p m : ℕ) : Type 0 where
   pub within : c.at < length n.eqs
   pub gained : gain ≡ length c.gain
   pub first : p + length (get_or n.eqs c.at []) ≡ size_of n + length c.up + (1 + gain)
   pub second : m + length (get_or n.eqs c.at []) ≡ size_of n + length c.down + sizes c.more
 
-module _ (n : Node) (c : Parting n) (gain p m : ℕ) (w : Counted n c gain p m) where
+module _ (n : Node) (c : Changed n) (gain p m : ℕ) (w : Counted n c gain p m) where
   minus-size : (fuel : ℕ) → size_of (child n false (down_eqs n c) n.nes fuel) ≡ m
   minus-size fuel =
       let a = sizes-more (set n.eqs c.at c.down) c.more in

@@ -194,11 +194,13 @@ fn children<S: TermStore>(
         (pair_at (S.state s.now) (node_at (S.state s.now) bench.now) change.now)
         (polynomial_at (S.state s.now) change.now.gain) p) }
 {
-    let gain = term_count(s, change.gain);
+    let terms = term_count(s, change.gain);
+    let up = term_count(s, change.up);
+    let down = term_count(s, change.down);
+    let more = more_size(s, change.more);
     let others = bench.size - bench.eqs[change.at].terms;
-    let plus_size = others + term_count(s, change.up) + (1 + gain);
-    let minus_size = others + term_count(s, change.down) + more_size(s, change.more);
-    let Some(fuels) = share(bench.fuel, gain, plus_size, minus_size) else {
+    let shared = share(bench.fuel, terms, others + up + (1 + terms), others + down + more);
+    let Some(fuels) = shared else {
         return Ok(Parting::Stopped(Reason::Fuel));
     };
     let gain = copy_out(alloc, s, change.gain)?;
