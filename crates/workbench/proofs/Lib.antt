@@ -2,6 +2,7 @@ pub mod Owning
 pub mod Tests
 pub mod Benches
 pub mod Tied
+pub mod Known
 pub mod Choice
 pub mod Tried
 pub mod Sharing
