@@ -10,9 +10,11 @@ use Rattle.poly_model.specs.declared.limits.Limit.{Limit}
 use Rattle.polynomials.specs.declared.poly.Poly.{Poly}
 use Rattle.polynomials.specs.Held.{Gives, polynomial_at}
 use Rattle.proof_steps.specs.Numbers.{item, has}
-use Rattle.poly_model.specs.Reduction.{primitive_tail, reduction_of, class_of, is_constant, reaches}
+use Rattle.poly_model.specs.Reduction.{main_place, primitive_tail, reduction_of, same, class_of, is_constant, reaches}
 use Rattle.poly_model.specs.Bounded.{bounded_reduction}
-use Rattle.poly_model.specs.Powers.{has_factor, one_monomial, shares_variable, without_variables}
+use Rattle.poly_model.specs.Equality.{same-is}
+use Rattle.poly_model.proofs.Powers.{factor-class}
+use Rattle.poly_model.specs.Powers.{has_factor, is_divided, is_factor, one_monomial, shares_variable, variable_in, without_variables}
 use Rattle.proof_steps.specs.Rules.{has_known_initial, has_second, size_of, dropped, cancelled, cut, depth_limit, reduction_limit, reduced, made, is_short, is_valid, reason_for, reason_of}
 use Rattle.proof_steps.specs.Reasons.{limit_met}
 use Rattle.proof_steps.specs.Trees.{may_factor}
@@ -294,3 +296,18 @@ factor-place version s b f v h =
 
 pub factor-has : (version : ℕ) (n : Node) (f : ℕ) (v : Polynomial) → may_factor version n f v ≡ true → has_factor (item n.eqs f) v ≡ true
 factor-has version n f v h = (and_parts (not (is_constant (item n.eqs f))) _ (and_parts (has_second version && has n.eqs f) _ h).1).1
+
+-- the equation that a factor parts on: it has terms, and the variable divides it, at a place of its own
+pub record Factored (p v : Polynomial) : Type 0 where
+  pub some : p ≢ []
+  pub low : 1 ≤ class_of v
+  pub below : class_of v < class_of p
+  pub divides : is_divided (main_place v) p ≡ true
+
+pub factored : (p v : Polynomial) → has_factor p v ≡ true → Factored p v
+factored p v h =
+    let a = and_parts (is_factor p (class_of v)) (same v (variable_in p (main_place v))) h in
+    let f = and_parts (nat_lt (class_of v) (class_of p)) (is_divided (main_place v) p) a.0 in
+    let below = ltb-true (class_of v) (class_of p) f.0 in
+    let class : class_of v ≡ suc (main_place v) = ap class_of (same-is v (variable_in p (main_place v)) a.1) ∙ factor-class p (main_place v) f.1 in
+    record { some = λ e. (let z = ap class_of e in let n : class_of [] ≡ 0 = refl in absurd (omega (arith, z, n, below))); low = omega (arith, class); below = below; divides = f.1 }
