@@ -55,11 +55,11 @@ pub reduces-err : (s t : State) (l : Limit) (w : Result (ℤ × Polynomial) Limi
 reduces-err s t l (Ok p) x = absurd x
 reduces-err s t l (Err k) x = (ap Err (sym x.0), x.1)
 
-limit-met : (g f : Polynomial) (l : Limit) → bounded_reduction g f ≡ Err l → reduction_limit g f ≡ Some (limits.reason_of l)
+pub limit-met : (g f : Polynomial) (l : Limit) → bounded_reduction g f ≡ Err l → reduction_limit g f ≡ Some (limits.reason_of l)
 unfolding reduction_limit
 limit-met g f l e = ap limit_met e
 
-limit-none : (g f : Polynomial) (p : ℤ × Polynomial) → bounded_reduction g f ≡ Ok p → reduction_limit g f ≡ None
+pub limit-none : (g f : Polynomial) (p : ℤ × Polynomial) → bounded_reduction g f ≡ Ok p → reduction_limit g f ≡ None
 unfolding reduction_limit
 limit-none g f p e = ap limit_met e
 

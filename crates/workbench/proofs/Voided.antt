@@ -1,8 +1,15 @@
 -- The condition that is void, by the searches.
 use Rattle.std.proofs.Common.{◌≡◌, ℕ, ◌+◌, ◌-◌, ◌<◌, ◌≤◌, zero, suc, List, [], ◌∷◌, length, map, get_or, refl, sym, ◌∙◌, ap, subst, arith, Bool, true, false, ◌&&◌, not}
-use Rattle.std.specs.Prelude.{◌==◌, Option, Some, None, is_none, is_some, unwrap_or, option_map, nat_le, if◌then◌else◌}
+use Rattle.std.specs.Prelude.{◌==◌, Option, Some, None, Result, Err, is_none, is_some, unwrap_or, option_map, nat_le, if◌then◌else◌}
+use Rattle.std.proofs.lemmas.Bool.{and_parts, eqb-false, not-true}
 use Rattle.std.proofs.lemmas.List.{length-map}
+use Rattle.poly_model.specs.Bounded.{bounded_reduction}
 use Rattle.poly_model.specs.Polynomial.{Polynomial}
+use Rattle.poly_model.specs.declared.limits.Limit.{Limit}
+use Rattle.poly_model.specs.declared.limits.TheConstants.{MOST_VARIABLES}
+use Rattle.poly_model.proofs.Within.{within-of}
+use Rattle.polynomials.proofs.Reading.{class-within}
+use Rattle.polynomials.specs.Held.{IsPoly}
 use Rattle.poly_model.specs.Reduction.{class_of, degree_at, is_constant, reaches, reduction_of, same}
 use Rattle.proof_steps.specs.Numbers.{item, has, first, first_from}
 use Rattle.proof_steps.specs.Rules.{has_known_initial, is_void, reduction_limit}
@@ -11,7 +18,8 @@ use Rattle.proof_steps.specs.declared.piece.Node.{Node}
 use Rattle.proof_steps.specs.declared.version.TheConstants.{VERSION}
 use Rattle.term_store.specs.States.{State}
 use Rattle.workbench.specs.Standing.{AllTell, held_at, node_at}
-use Rattle.workbench.specs.Voids.{AreTold, leaves_nothing, is_voided_by, voider_in, voided_at, void_next}
+use Rattle.workbench.specs.Voids.{AreTold, IsTold, is_reducer, may_reduce, leaves_nothing, is_voided_by, voider_in, voided_at, void_next}
+use Rattle.workbench.proofs.Tried.{limit-met}
 use Rattle.workbench.specs.declared.bench.Bench.{Bench}
 use Rattle.workbench.specs.declared.bench.Held.{Held}
 use Rattle.workbench.proofs.Tied.{found, item-next, some_place, suc-zero, there}
@@ -78,3 +86,41 @@ void-found s b t =
   where
     inside : (i : ℕ) → i < length (node_at s b).nes → has (node_at s b).nes (1 + i) ≡ true
     inside i low = tied.has-there (node_at s b).nes (1 + i) (omega arith) (omega (arith, low))
+
+-- ---- one condition and one equation
+pub class-place : (s : State) (h : Held) → IsPoly s h.poly → IsTold s h → h.class - 1 < MOST_VARIABLES
+class-place s h p t =
+    let w = class-within MOST_VARIABLES (held_at s h) (within-of (held_at s h) p.standard).descending in
+    let e = t.class in
+    omega (arith, w, e)
+
+pub not-reduced : (s : State) (h : Held) (q : Polynomial) → (is_reducer h && may_reduce h q) ≡ false → false ≡ is_voided_by s h q
+not-reduced s h q e = by (is_reducer h) (may_reduce h q) (leaves_nothing s h q) e
+  where
+    by : (a b c : Bool) → (a && b) ≡ false → false ≡ (a && (b && c))
+    by false b c e = refl
+    by true false c e = refl
+    by true true c e = cc
+
+pub reducer-class : (s : State) (h : Held) (q : Polynomial) → IsTold s h → (is_reducer h && may_reduce h q) ≡ true → class_of (held_at s h) ≡ suc (h.class - 1)
+reducer-class s h q t e =
+    let a = and_parts (is_reducer h) (may_reduce h q) e in
+    let some = eqb-false h.class 0 (not-true (h.class == 0) (and_parts (not (h.class == 0)) h.known a.0).0) in
+    let k = t.class in
+    omega (arith, some, k)
+
+pub reducer-reaches : (s : State) (h : Held) (q : Polynomial) → IsTold s h → (is_reducer h && may_reduce h q) ≡ true → reaches q (held_at s h) ≡ true
+reducer-reaches s h q t e =
+    let a = and_parts (is_reducer h) (may_reduce h q) e in
+    (λ i. nat_le (sym t.degree i) (degree_at (sym t.class i - 1) q)) ∙ (and_parts (class_of q == h.class) _ a.1).1
+
+-- a limit that is met leaves something
+pub limit-void : (s : State) (h : Held) (q : Polynomial) (l : Limit) → bounded_reduction q (held_at s h) ≡ Err l → false ≡ is_voided_by s h q
+limit-void s h q l e =
+    let limit : is_none (reduction_limit q (held_at s h)) ≡ false = ap is_none (limit-met q (held_at s h) l e) in
+    by (is_reducer h) (may_reduce h q) (is_none (reduction_limit q (held_at s h))) (same (reduction_of q (held_at s h)).1 []) limit
+  where
+    by : (a b c d : Bool) → c ≡ false → false ≡ (a && (b && (c && d)))
+    by false b c d e = refl
+    by true false c d e = refl
+    by true true c d e = sym (ap (λ x. x && d) e)
