@@ -251,7 +251,7 @@ positive t n = by (first t n) refl
         same_some s = cc
 
 -- ---- factors
-factor-told : (N : List Polynomial) (h : Held) (p : Polynomial) → Tells N h p → (not (is_constant p) && is_some (least_factor p)) ≡ not (h.factor == 0)
+pub factor-told : (N : List Polynomial) (h : Held) (p : Polynomial) → Tells N h p → (not (is_constant p) && is_some (least_factor p)) ≡ not (h.factor == 0)
 factor-told N h p u = by (is_constant p) ∙ ap (λ k. not (k == 0)) (sym u.factor)
   where
     by : (b : Bool) → (not b && is_some (least_factor p)) ≡ not ((if b then 0 else unwrap_or (least_factor p) 0) == 0)

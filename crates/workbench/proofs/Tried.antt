@@ -199,7 +199,7 @@ drop-taken version base u c n i x enough at =
     (ap (λ b. if b then Some Fuel else None) (one-short (dropped n i) false long), x)
 
 -- ---- cancel
-condition-at : (s : State) (ps : List Poly) (i : ℕ) (p : Poly) → i < length ps → p ≡ get_or ps i p → polynomial_at s p ≡ get_or (map (polynomial_at s) ps) i []
+pub condition-at : (s : State) (ps : List Poly) (i : ℕ) (p : Poly) → i < length ps → p ≡ get_or ps i p → polynomial_at s p ≡ get_or (map (polynomial_at s) ps) i []
 condition-at s [] i p h at = absurd (omega arith)
 condition-at s (q ∷ ps) zero p h at = ap (polynomial_at s) at
 condition-at s (q ∷ ps) (suc i) p h at = condition-at s ps i p (omega arith) at

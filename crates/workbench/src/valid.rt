@@ -134,7 +134,7 @@ pub fn may_cancel<S: TermStore>(version: u8, s: &S, bench: &Bench, g: u16, q: u1
     let Some(by) = condition(&bench.nes, q) else {
         return false;
     };
-    has_second(version) && h.class != 0 && cancels(s, by, h.poly)
+    has_second(version) && (h.class != 0 && cancels(s, by, h.poly))
 }
 
 /// The node may be parted on a variable that divides the equation.
@@ -144,6 +144,6 @@ pub fn may_part<S: TermStore>(version: u8, s: &S, bench: &Bench, f: u16) -> bool
 {
     match numbered(&bench.eqs, f) {
         None => false,
-        Some(h) => has_second(version) && h.class != 0 && h.factor != 0,
+        Some(h) => has_second(version) && h.factor != 0,
     }
 }
