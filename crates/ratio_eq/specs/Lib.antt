@@ -1,0 +1,5 @@
+pub mod Vectors
+pub mod Fractions
+pub mod Bounded
+pub mod Laws
+pub mod Outcomes
