@@ -20,6 +20,7 @@ use Rattle.poly_model.proofs.Rows.{within-is, bounded_product-is}
 use Rattle.poly_model.proofs.Within.{within-of, standard-of, bounded_sum-standard, bounded_product-standard}
 use Rattle.poly_model.proofs.Standards.{bounded_difference-standard, primitive-within}
 use Rattle.ratio_terms.specs.Terms.{Term, Whole, Area, Pythagoras, Ratio, Sum, Product}
+use Rattle.ratio_eq.proofs.Numbers.{natural-standard}
 use Rattle.ratio_eq.specs.Vectors.{Vector, minus, dot, cross, sq}
 use Rattle.ratio_eq.specs.Fractions.{polynomials, Fraction, fraction_of, squares_of, cross_of, with_new, once_behind, parts_once, product_onto, conclusion_of}
 use Rattle.ratio_eq.specs.Bounded.{bounded_minus, bounded_dot, bounded_crossing, bounded_square, Formed, formed_over_one, bounded_fraction, bounded_cross_of, bounded_onto, bounded_equality, bounded_conclusion}
@@ -29,27 +30,8 @@ use Rattle.ratio_eq.specs.Laws.{IsStandardPlace, IsStandardTerm, BoundedIsUsual}
 record Standard (p : Polynomial) : Type 0 where
   is : IsTrue (is_standard p)
 
--- ---- numbers
-added_equal : (e : List ℕ) (c d : ℤ) (r : Ordering) → r ≡ Equal
-    → elim r [ Less ↦ (e, d) ∷ add_entry e c [] | Equal ↦ with_entry e (c +ℤ d) [] | Greater ↦ with_entry e c ((e, d) ∷ []) ] ≡ with_entry e (c +ℤ d) []
-added_equal e c d Less h = cc
-added_equal e c d Equal h = refl
-added_equal e c d Greater h = cc
-
-pub natural-constant : (n k : ℕ) → natural_in (polynomial_operations n) k ≡ poly_constant n (pos k)
-natural-constant n zero = refl
-natural-constant n (suc zero) = refl
-natural-constant n (suc (suc k)) =
-    ap (add_entry (replicate n 0) (pos 1)) (natural-constant n (suc k))
-    ∙ added_equal (replicate n 0) (pos 1) (pos (suc k)) (monomial_cmp (replicate n 0) (replicate n 0)) (monomial_cmp-self (replicate n 0))
-    ∙ ap (λ z. with_entry (replicate n 0) z []) (let e : pos 1 +ℤ pos (suc k) ≡ pos (suc (suc k)) = omega (arith, ints) in e)
-
-constant-standard : (k : ℕ) → k ≤ MOST_SIZE → is_standard (poly_constant MOST_VARIABLES (pos k)) ≡ true
-constant-standard zero le = refl
-constant-standard (suc k) le = both_true (both_true (both_true (lt-ltb 0 (suc k) (omega arith)) (le-leb (suc k) MOST_SIZE le)) refl) refl
-
 number : (k : ℕ) → k ≤ MOST_SIZE → Standard (natural_in polynomials k)
-number k le = record { is = ap is_standard (natural-constant MOST_VARIABLES k) ∙ constant-standard k le }
+number k le = record { is = natural-standard k le }
 
 one : Standard polynomials.one
 one = record { is = refl }

@@ -2,6 +2,7 @@
 ghost use Rattle.std.specs.Prelude.{◌≡◌, ◌≤◌, IfOk, IfErr, Ok};
 ghost use Rattle.poly_model.specs.Domain.{natural_in};
 ghost use Rattle.poly_model.specs.Content.{primitive_part};
+ghost use Rattle.poly_model.specs.Standard.{polynomial_of};
 ghost use Rattle.poly_model.specs.declared.limits.TheConstants.{ARITH_UNITS, STEP_UNITS};
 ghost use Rattle.polynomials.specs.Held.{IsPoly, Answers, polynomial_at};
 ghost use Rattle.term_store.specs.Holding.{held_by};
@@ -78,17 +79,27 @@ pub fn primitive(alloc: Global, p: &OwnedPoly) -> Result<OwnedPoly, RatioFault>
     Ok(copy_out(alloc, &s, part)?)
 }
 
+/// The terms of a whole number.
+fn constant_terms(alloc: Global, k: u32) -> Result<Vec<Term>, RatioFault>
+    ensures terms { IfOk result (λ ts. polynomial_of ts.items ≡ natural_in polynomials k) }
+    ensures fault { IfErr result (λ fault. fault ≡ OutOfMemory) }
+{
+    let mut terms = Vec::new(alloc);
+    if k == 0 {
+        return Ok(terms);
+    }
+    terms.push(Term {
+        coef: k as i128,
+        exps: [0; MOST_VARIABLES],
+    })?;
+    Ok(terms)
+}
+
 /// A whole number.
 pub fn number(alloc: Global, k: u32) -> Result<OwnedPoly, RatioFault>
     ensures { Gives same result (Ok (natural_in polynomials k)) }
 {
-    let mut terms = Vec::new(alloc);
-    if k != 0 {
-        terms.push(Term {
-            coef: k as i128,
-            exps: [0; MOST_VARIABLES],
-        })?;
-    }
+    let terms = constant_terms(alloc, k)?;
     match OwnedPoly::from_terms(terms) {
         Ok(p) => Ok(p),
         Err(_) => unreachable!(),
