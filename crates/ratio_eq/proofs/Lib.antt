@@ -2,3 +2,5 @@ pub mod Numbers
 pub mod Kept
 pub mod Meaning
 pub mod Limits
+pub mod Taking
+pub mod Forming

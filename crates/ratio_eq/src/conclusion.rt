@@ -11,7 +11,7 @@ ghost use Rattle.ratio_eq.specs.Taking.{formed_of};
 use crate::arith::{Operation, combined, primitive};
 use crate::fault::RatioFault;
 use crate::fraction::{Fraction, appended};
-use crate::term::term;
+use crate::term::{behind, term};
 use poly_model::OwnedPoly;
 use ratio_terms::Part;
 use std::alloc::Global;
@@ -94,6 +94,10 @@ pub fn conclude(
     ensures { Gives same result (concluded parts.now spots.now) }
 {
     let first = term(alloc, parts, spots)?;
-    let second = term(alloc, &parts[first.parts..], &spots[first.spots..])?;
+    let second = term(
+        alloc,
+        behind(parts, first.parts),
+        behind(spots, first.spots),
+    )?;
     equality(alloc, first.fraction, second.fraction)
 }

@@ -1,5 +1,5 @@
 // The fraction of a term, from its parts in preorder.
-ghost use Rattle.std.specs.Prelude.{◌≡◌, IfOk};
+ghost use Rattle.std.specs.Prelude.{◌≡◌, ◌≤◌, length, drop, IfOk};
 ghost use Rattle.ratio_eq.specs.Outcomes.{Gives};
 ghost use Rattle.ratio_eq.specs.Taking.{formed_of, bounded_first, AreWhole, TakesFirst};
 
@@ -15,6 +15,14 @@ pub struct Taken {
     pub fraction: Fraction,
     pub parts: usize,
     pub spots: usize,
+}
+
+/// What stands behind so many.
+pub fn behind<T>(items: &[T], n: usize) -> &[T]
+    requires { n ≤ length items.now }
+    ensures { result.now ≡ drop n items.now }
+{
+    &items[n..]
 }
 
 /// The fraction of the first term of parts over places, or the limit that is met first.
@@ -34,7 +42,11 @@ pub fn term(alloc: Global, parts: &[Part], spots: &[Vector]) -> Result<Taken, Ra
         });
     }
     let first = term(alloc, inner, spots)?;
-    let second = term(alloc, &inner[first.parts..], &spots[first.spots..])?;
+    let second = term(
+        alloc,
+        behind(inner, first.parts),
+        behind(spots, first.spots),
+    )?;
     let (parts, spots) = (1 + first.parts + second.parts, first.spots + second.spots);
     Ok(Taken {
         fraction: joined(alloc, *part, first.fraction, second.fraction)?,

@@ -1,6 +1,8 @@
-use Rattle.std.proofs.Common.{◌≡◌}
+use Rattle.std.proofs.Common.{◌≡◌, length}
 use Rattle.ratio_eq.specs.Bounded.{bounded_onto}
 use Rattle.ratio_eq.proofs.conclusion.onto.Given as goal
 
-abbrev pub invariant-loop-rest : goal.invariant-loop-rest
-invariant-loop-rest l = bounded_onto l.product l.rest.now ≡ bounded_onto l.args.p l.args.qs.now
+abbrev pub invariant-loop-q : goal.invariant-loop-q
+invariant-loop-q l = bounded_onto l.product l.rest.now ≡ bounded_onto l.fn.p l.fn.qs.now
+abbrev pub decreases-loop-q : goal.decreases-loop-q
+decreases-loop-q l = length l.rest.now

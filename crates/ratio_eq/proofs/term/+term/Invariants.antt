@@ -2,4 +2,4 @@ use Rattle.std.proofs.Common.{length}
 use Rattle.ratio_eq.proofs.term.+term.Given as goal
 
 abbrev pub decreases-term : goal.decreases-term
-decreases-term g l = length l.parts.now
+decreases-term l = length l.parts.now
