@@ -10,7 +10,6 @@ mod Running
 mod Passes
 mod Tellings
 mod Assured
-pub mod Readings
 pub mod Exact
 mod Listing
 mod Dues

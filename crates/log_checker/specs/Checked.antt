@@ -1,6 +1,5 @@
 -- What the check of a log answers of its bytes.
-use Rattle.std.specs.Prelude.{◌≡◌, ◌<◌, ◌≤◌, ℕ, List, [], ◌∷◌, map, length, IfOk, IsTrue, Option, Result, Ok, Err}
-use Rattle.desk_io.specs.Files.{Files, Holds}
+use Rattle.std.specs.Prelude.{◌≡◌, ◌<◌, ℕ, List, [], ◌∷◌, map, length, IsTrue, Result, Ok, Err}
 use Rattle.poly_model.specs.Domain.{Operations}
 use Rattle.poly_model.specs.declared.limits.TheConstants.{MOST_LOG_BYTES}
 use Rattle.proof_steps.specs.declared.problem.Problem.{Problem}
@@ -34,11 +33,11 @@ Judged (Err fault.ReadFault) bytes = ⊥
 Judged (Err fault.TooLarge) bytes = ⊥
 Judged (Err fault.OutOfMemory) bytes = Unit {0}
 
--- An answer of a file: what is found of its bytes, where it is not too large; and a read may fail.
+-- An answer of a file: it may also be too large, and a read may fail.
 abbrev pub FileJudged : Result Checked CheckFault → List ℕ → Type 0
-FileJudged (Ok checked) file = (length file ≤ MOST_LOG_BYTES) × Judged (Ok checked) file
-FileJudged (Err (fault.Malformed n)) file = (length file ≤ MOST_LOG_BYTES) × Judged (Err (fault.Malformed n)) file
-FileJudged (Err (fault.Rejected n word)) file = (length file ≤ MOST_LOG_BYTES) × Judged (Err (fault.Rejected n word)) file
+FileJudged (Ok checked) file = Judged (Ok checked) file
+FileJudged (Err (fault.Malformed n)) file = Judged (Err (fault.Malformed n)) file
+FileJudged (Err (fault.Rejected n word)) file = Judged (Err (fault.Rejected n word)) file
 FileJudged (Err fault.ReadFault) file = Unit {0}
 FileJudged (Err fault.TooLarge) file = MOST_LOG_BYTES < length file
 FileJudged (Err fault.OutOfMemory) file = Unit {0}
@@ -70,15 +69,3 @@ pub record IsCovered {M : Type 0} (o : Operations M) (checked : Checked) (bytes 
   pub text : IsAcceptedText log bytes
   pub tells : Tells checked log
   pub covered : AllCovered o log
-
--- ---- what is answered of a desk
--- Bytes that were read under a name: where the desk tells its files, they are those of the file.
-abbrev pub AreOf : Option Files → List ℕ → List ℕ → Type 0
-AreOf held name bytes = (file : List ℕ) → Holds held name file → bytes ≡ file
-
--- The answer is one of some bytes, which were read once, whether the desk tells its files or not.
-pub record ReadOnce {M : Type 0} (o : Operations M) (held : Option Files) (name : List ℕ) (result : Result Checked CheckFault) : Type 0 where
-  pub bytes : List ℕ
-  pub own : AreOf held name bytes
-  pub judged : FileJudged result bytes
-  pub covered : IfOk result (λ checked. IsCovered o checked bytes)
