@@ -4,7 +4,7 @@ use Rattle.std.specs.Prelude.{replicate}
 use Rattle.std.proofs.lemmas.List.{length-replicate}
 use Rattle.poly_model.specs.declared.limits.TheConstants.{MOST_LOG_BYTES}
 use Rattle.desk_io.specs.Files.{Files, Holds, known_at}
-use Rattle.log_checker.specs.Checked.{AreOf, Judged, FileJudged}
+use Rattle.log_checker.specs.Checked.{AreOf, Judged, ReadJudged}
 use Rattle.log_checker.specs.declared.checking.Checked.{Checked}
 use Rattle.log_checker.specs.declared.fault.CheckFault.{CheckFault}
 use Rattle.log_checker.specs.declared.fault.CheckFault.TheVariants as fault
@@ -41,7 +41,7 @@ many_bytes held name most larger =
     record { bytes = m.0; own = m.1; many = m.2 }
 
 -- what is answered of bytes that are at hand
-pub of_bytes : (result : Result Checked CheckFault) (bytes : List ℕ) → length bytes ≤ MOST_LOG_BYTES → Judged result bytes → FileJudged result bytes
+pub of_bytes : (result : Result Checked CheckFault) (bytes : List ℕ) → length bytes ≤ MOST_LOG_BYTES → Judged result bytes → ReadJudged result bytes
 of_bytes (Ok checked) bytes fits judged = (fits, judged)
 of_bytes (Err (fault.Malformed n)) bytes fits judged = (fits, judged)
 of_bytes (Err (fault.Rejected n word)) bytes fits judged = (fits, judged)
