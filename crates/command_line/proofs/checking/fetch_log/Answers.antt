@@ -1,7 +1,7 @@
 use Rattle.std.proofs.Common.{Err, ap, refl, inl, inr, subst}
 use Rattle.poly_model.specs.declared.limits.TheConstants.{MOST_LOG_BYTES}
 use Rattle.desk_io.specs.Files.{Lacks}
-use Rattle.log_checker.specs.Checked.{FileJudged}
+use Rattle.log_checker.specs.Checked.{ReadJudged}
 use Rattle.command_line.specs.Answer.{read_fault, too_large}
 use Rattle.command_line.proofs.Dues.{given, due_large, due_fault}
 use Rattle.command_line.proofs.Found.{over_of}
@@ -19,7 +19,7 @@ returns-in-Err-TooLarge-clause-over g c = λ out.
     given _ _ _ _ too_large _ _ _ _ _
     (due_large _ _ c.args.name.now MOST_LOG_BYTES read.bytes read.own
     (λ (lacks : Lacks (g.K.Desk.held c.args.desk.now) c.args.name.now). elim (c.in-Err-TooLarge.ensures.absent lacks) [ inl e ↦ (cc) | inr e ↦ (cc) ])
-    (subst (λ f. FileJudged (Err f) read.bytes) c.in-Err-TooLarge.field-0-is read.judged))
+    (subst (λ f. ReadJudged (Err f) read.bytes) c.in-Err-TooLarge.field-0-is read.judged))
     (c.say-in-Err-TooLarge.ensures.ends out)
 
 pub returns-in-Err-OutOfMemory-clause-over : goal.returns-in-Err-OutOfMemory-clause-over
@@ -44,7 +44,7 @@ returns-in-Ok-clause-found g c =
 pub returns-in-Err-Malformed-clause-found : goal.returns-in-Err-Malformed-clause-found
 returns-in-Err-Malformed-clause-found g c =
     let read = c.in-Err-Malformed.ensures.read in
-    let judged = subst (λ f. FileJudged (Err f) read.bytes) c.in-Err-Malformed.field-0-is read.judged in
+    let judged = subst (λ f. ReadJudged (Err f) read.bytes) c.in-Err-Malformed.field-0-is read.judged in
     record {
       log = read.bytes;
       read = record {
@@ -58,7 +58,7 @@ returns-in-Err-Malformed-clause-found g c =
 pub returns-in-Err-Rejected-clause-found : goal.returns-in-Err-Rejected-clause-found
 returns-in-Err-Rejected-clause-found g c =
     let read = c.in-Err-Rejected.ensures.read in
-    let judged = subst (λ f. FileJudged (Err f) read.bytes) c.in-Err-Rejected.field-0-is read.judged in
+    let judged = subst (λ f. ReadJudged (Err f) read.bytes) c.in-Err-Rejected.field-0-is read.judged in
     record {
       log = read.bytes;
       read = record {
