@@ -13,7 +13,7 @@ use Rattle.poly_model.proofs.Ordered.{descending-sum, descending-negative, desce
 use Rattle.poly_model.proofs.Primitive.{own-primitive_part}
 use Rattle.proof_steps.specs.Stated.{is_own_part, is_brief, AreStated, IsStated, IsWithinLimits}
 use Rattle.proof_steps.specs.declared.problem.Problem.{Problem}
-use Rattle.proof_steps.specs.declared.problem.TheConstants.{MOST_STATED_TERMS}
+use Rattle.proof_steps.specs.declared.problem.TheConstants.{MOST_CONCLUSION_TERMS, MOST_STATED_TERMS}
 use Rattle.gcl_reader.specs.declared.word.Statement.{Statement}
 use Rattle.gcl_names.specs.declared.program.Act.{Act}
 use Rattle.gcl_names.specs.declared.program.Deed.{Deed}
@@ -164,7 +164,7 @@ own_parts [] us h = refl
 own_parts (p ∷ ps) [] h = absurd h
 own_parts (p ∷ ps) (u ∷ us) h = both_true (own_part p h.0) (own_parts ps us h.1)
 
-brief_parts : (ps : List Polynomial) → Each IsBrief ps → list_all is_brief (map primitive_part ps) ≡ true
+brief_parts : (ps : List Polynomial) → Each IsBrief ps → list_all (is_brief MOST_STATED_TERMS) (map primitive_part ps) ≡ true
 brief_parts [] h = refl
 brief_parts (p ∷ ps) h = both_true (le_true _ MOST_STATED_TERMS (omega (arith, length-primitive_part p, h.0))) (brief_parts ps h.1)
 
@@ -174,7 +174,7 @@ few_hypotheses : (acts : List Act) → length (hypotheses_of acts) ≤ length (l
 few_hypotheses acts =
     omega (arith, length-parts (expressions_of acts), length-acts (general_figure (layout_of acts)) no_curves empty acts, within-layout empty acts (omega arith))
 
-hypotheses-stated : (acts : List Act) → IsTrue (list_all is_standard (hypotheses_of acts)) → AreStated (length (layout_of acts).variables) (hypotheses_of acts)
+hypotheses-stated : (acts : List Act) → IsTrue (list_all is_standard (hypotheses_of acts)) → AreStated (length (layout_of acts).variables) MOST_STATED_TERMS (hypotheses_of acts)
 hypotheses-stated acts within = record {
   own = over_hypotheses acts;
   standard = within;
@@ -188,7 +188,7 @@ is_conclusion : (acts : List Act) (s : Statement) (points : List ℕ) → IsConc
 is_conclusion acts s points = conclusion-fine brief (general_figure (layout_of acts)) s points (single-places (layout_of acts).places)
 
 conclusions-stated : (acts : List Act) (s : Statement) (points : List ℕ) → IsTrue (list_all is_standard (conclusions_of acts s points))
-    → AreStated (length (layout_of acts).variables) (conclusions_of acts s points)
+    → AreStated (length (layout_of acts).variables) MOST_CONCLUSION_TERMS (conclusions_of acts s points)
 conclusions-stated acts s points within = record {
   own = over_conclusions acts s points;
   standard = within;
@@ -206,8 +206,8 @@ stated_problem acts s points p is few within =
     let shown = is_conclusion acts s points in
     let count = ap length cons ∙ length-parts (conclusion polynomials (general_figure (layout_of acts)) s points) in
     record {
-      hyps = subst (λ (e : Equations). AreStated (length e.variables) e.hypotheses) (sym is) (hypotheses-stated acts (subst (λ ps. IsTrue (list_all is_standard ps)) hyps within.hyps));
-      cons = subst (λ (e : Equations). AreStated (length e.variables) e.conclusions) (sym is) (conclusions-stated acts s points (subst (λ ps. IsTrue (list_all is_standard ps)) cons within.cons));
+      hyps = subst (λ (e : Equations). AreStated (length e.variables) MOST_STATED_TERMS e.hypotheses) (sym is) (hypotheses-stated acts (subst (λ ps. IsTrue (list_all is_standard ps)) hyps within.hyps));
+      cons = subst (λ (e : Equations). AreStated (length e.variables) MOST_CONCLUSION_TERMS e.conclusions) (sym is) (conclusions-stated acts s points (subst (λ ps. IsTrue (list_all is_standard ps)) cons within.cons));
       few_hyps = omega (arith, ap length hyps, few_hypotheses acts, few);
       some_con = omega (arith, count, shown.1);
       few_cons = omega (arith, count, shown.2);

@@ -1,5 +1,5 @@
 -- The log of a file's proves is accepted, and can be written whole.
-use Rattle.std.proofs.Common.{◌≡◌, ◌≤◌, ◌<◌, ◌+◌, ◌/◌, ℕ, zero, suc, List, [], ◌∷◌, ◌++◌, map, length, Bool, true, false, if◌then◌else◌, Ok, refl, sym, ◌∙◌, ap, subst, arith}
+use Rattle.std.proofs.Common.{◌≡◌, ◌≤◌, ◌<◌, ◌+◌, ℕ, zero, suc, List, [], ◌∷◌, ◌++◌, map, length, Bool, true, false, if◌then◌else◌, Ok, refl, sym, ◌∙◌, ap, subst, arith}
 use Rattle.std.specs.List.{AllByRecursion}
 use Rattle.std.proofs.lemmas.List.Elements.{All-from_recursion}
 use Rattle.gcl_reader.specs.Grammar.{◌>>=◌, file_of}
@@ -25,13 +25,15 @@ use Rattle.algebraize.proofs.Limits.{AllNear, sound-near, front-near, problem-wi
 use Rattle.algebraize.proofs.Proves.{variables_of_layout}
 use Rattle.algebraize.proofs.Stated.{stated_problem}
 use Rattle.proof_log.specs.Accepted.{IsAccepted}
-use Rattle.proof_log.specs.declared.limits.TheConstants.{VERSION}
+use Rattle.proof_log.specs.Headings.{share_of}
+use Rattle.proof_steps.specs.declared.version.TheConstants.{VERSION}
 use Rattle.proof_log.specs.declared.log.Proof.{Proof}
 use Rattle.prove_run.specs.Logs as logs
-use Rattle.prove_run.specs.Logs.{log_of, log_of_program}
+use Rattle.prove_run.specs.Logs.{log_of, log_of_program, newest}
 use Rattle.prove_run.specs.Whole.{IsPosed, IsWhole}
 use Rattle.prove_run.proofs.Logs.{logs-accepted, logs-whole}
 use Rattle.prove_run.proofs.Program.{few-problems}
+use Rattle.prove_run.proofs.Proved.{newest-known}
 use Rattle.command_line.specs.Checking.{stated_in}
 use Rattle.command_line.specs.Proving.{proofs_of}
 use Rattle.command_line.specs.VerdictLines.{problems_in}
@@ -120,8 +122,8 @@ problems-back version fuel (p ∷ ps) = ap (λ l. p ∷ l) (problems-back versio
 
 -- ---- the log
 pub record IsSure (proofs : List Proof) : Type 0 where
-  pub accepted : IsAccepted VERSION proofs
-  pub whole : IsWhole VERSION proofs
+  pub accepted : IsAccepted newest proofs
+  pub whole : IsWhole newest proofs
 
 program-sure : (program : Program) (proofs : List Proof) → IsSound program → log_of_program program.acts ≡ Ok proofs → IsSure proofs
 program-sure program proofs sound h =
@@ -132,7 +134,7 @@ program-sure program proofs sound h =
     let few = few-problems program sound problems (es.1 ∙ ap Ok (again es.0)) in
     subst IsSure (ok-is es.2) record {
       accepted = logs-accepted VERSION problems few (λ k d lt. (posed k d lt).stated);
-      whole = logs-whole VERSION problems (omega arith) (omega arith) few posed;
+      whole = logs-whole VERSION problems newest-known few posed;
     }
 
 -- The problems of the log are those of the file.
@@ -143,7 +145,7 @@ log-stated bytes proofs h =
     let es = bind-ok (problems_of p.0.acts) _ proofs p.2 in
     let problems = map logs.problem_of es.0 in
     ap (λ r. r >>= λ program. problems_of program.acts) p.1 ∙ es.1
-    ∙ ap Ok (again es.0 ∙ ap (map equations) (sym (problems-back VERSION (MOST_FUEL / length problems) problems) ∙ ap problems_in (ok-is es.2)))
+    ∙ ap Ok (again es.0 ∙ ap (map equations) (sym (problems-back VERSION (share_of MOST_FUEL (length problems)) problems) ∙ ap problems_in (ok-is es.2)))
 
 -- The log of a file is accepted and whole.
 pub log-sure : (bytes : List ℕ) (proofs : List Proof) → proofs_of bytes ≡ Ok proofs → IsSure proofs

@@ -14,8 +14,9 @@ use Rattle.algebraize.specs.Equations.{Equations}
 use Rattle.algebraize.specs.Formed.{equations}
 use Rattle.algebraize.specs.Problem.{problems_of}
 use Rattle.assurance.specs.Assured.{TreesCover, VerdictsHold}
-use Rattle.proof_log.specs.Grammar.{AreProofs}
-use Rattle.proof_log.specs.declared.limits.TheConstants.{VERSION}
+use Rattle.prove_run.specs.Logs.{newest}
+use Rattle.prove_run.proofs.Proved.{newest-known}
+use Rattle.prove_run.proofs.Written.{are-proofs}
 use Rattle.proof_log.specs.declared.log.Proof.{Proof}
 use Rattle.log_checker.specs.Answers.{Finding, Accepted, Malformed, Rejected, IsFound, IsAcceptedText}
 use Rattle.prove_run.specs.Whole.{HasCounts}
@@ -117,18 +118,13 @@ answered form files status (inl a) written = (a.0, a.1, sym a.2)
 answered form files status (inr fault) written = absurd (not_fault status written fault)
 
 -- ---- what is proved
-are_proofs : (log : List Proof) → AllByRecursion HasCounts log → AreProofs log
-unfolding AreProofs
-are_proofs [] h = tt
-are_proofs (p ∷ ps) h =
-    let c = h.0 in
-    (record { hyps = c.hypotheses; one = omega (arith, c.some_conclusion); two = c.conclusions }, omega (arith, c.some_piece), are_proofs ps h.1)
-
 pub accepted_text : (proofs : List Proof) → IsSure proofs → IsAcceptedText proofs (log_text proofs)
 accepted_text proofs sure = record {
-  version = VERSION;
-  fits = record { proofs = are_proofs proofs (recursion_from_All HasCounts proofs sure.whole.counts); written = sure.whole.written };
+  heading = newest;
+  stated = newest-known.stated;
+  fits = record { proofs = are-proofs proofs (recursion_from_All HasCounts proofs sure.whole.counts); written = sure.whole.written };
   lines = sure.whole.lines;
+  own = sure.whole.own;
   text = refl;
   accepted = sure.accepted;
 }

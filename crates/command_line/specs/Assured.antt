@@ -2,16 +2,18 @@
 use Rattle.std.specs.Prelude.{◌≡◌, ℕ, List, [], All}
 use Rattle.poly_model.specs.Domain.{Operations}
 use Rattle.verdicts.specs.Claims.{Covers, Claims}
+use Rattle.proof_log.specs.Headings.{Heading, IsHeading}
 use Rattle.proof_log.specs.Lines.{log_lines, LogWritten}
 use Rattle.proof_log.specs.Text.{AreLines, text_of}
 use Rattle.proof_log.specs.declared.log.Proof.{Proof}
 
 -- The bytes are the text of a log of these proofs.
 pub record Spells (bytes : List ℕ) (proofs : List Proof) : Type 0 where
-  pub version : ℕ
+  pub heading : Heading
+  pub stated : IsHeading heading
   pub written : LogWritten proofs
-  pub lines : AreLines [] (log_lines version proofs)
-  pub text : bytes ≡ text_of [] (log_lines version proofs)
+  pub lines : AreLines [] (log_lines heading proofs)
+  pub text : bytes ≡ text_of [] (log_lines heading proofs)
 
 -- A point is a zero of the problem's hypotheses exactly if it satisfies the equations and conditions of some listed leaf.
 -- And what the verdict claims is so: proved, or proved under C, says that each zero of the hypotheses at which no

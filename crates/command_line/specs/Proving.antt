@@ -8,9 +8,8 @@ use Rattle.verdicts.specs.declared.verdict.Verdict.{Verdict}
 use Rattle.verdicts.specs.declared.verdict.Verdict.TheVariants as verdict
 use Rattle.proof_log.specs.Lines.{log_lines}
 use Rattle.proof_log.specs.Text.{text_of}
-use Rattle.proof_log.specs.declared.limits.TheConstants.{VERSION}
 use Rattle.proof_log.specs.declared.log.Proof.{Proof}
-use Rattle.prove_run.specs.Logs.{log_of_program}
+use Rattle.prove_run.specs.Logs.{log_of_program, newest}
 use Rattle.command_line.specs.Answer.{Answer}
 use Rattle.command_line.specs.VerdictLines.{verdicts_text, problems_in, verdicts_in}
 use Rattle.command_line.specs.declared.status.Status.{Status}
@@ -24,7 +23,7 @@ proofs_of bytes = do
 
 -- The text of their log.
 abbrev pub log_text : List Proof → List ℕ
-log_text proofs = text_of [] (log_lines VERSION proofs)
+log_text proofs = text_of [] (log_lines newest proofs)
 
 -- A verdict that proves its statement, if need be under conditions.
 abbrev pub proves : Verdict → Bool

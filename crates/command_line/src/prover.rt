@@ -1,10 +1,10 @@
 // Who proves the statements of a file: one thread, or several workers. Both give the same log.
-ghost use Rattle.std.specs.Prelude.{IfOk};
+ghost use Rattle.std.specs.Prelude.{◌≡◌, IfOk};
 ghost use Rattle.gcl_names.specs.Sound.{IsSound};
 ghost use Rattle.gcl_reader.specs.Grammar.{Gives};
 ghost use Rattle.proof_log.specs.Accepted.{IsAccepted};
-ghost use Rattle.proof_log.specs.declared.limits.TheConstants.{VERSION};
-ghost use Rattle.prove_run.specs.Logs.{log_of_program};
+ghost use Rattle.proof_log.specs.Headings.{heading_of};
+ghost use Rattle.prove_run.specs.Logs.{log_of_program, newest};
 ghost use Rattle.prove_run.specs.Whole.{IsWhole};
 
 use crate::workers::Workers;
@@ -27,8 +27,9 @@ pub trait Prover {
         requires ready { ready }
         requires sound { IsSound program.now }
         ensures log { Gives (λ log. log.proofs) result (log_of_program program.now.acts) }
-        ensures accepted { IfOk result (λ log. IsAccepted VERSION log.proofs) }
-        ensures whole { IfOk result (λ log. IsWhole VERSION log.proofs) };
+        ensures heading { IfOk result (λ log. heading_of log ≡ newest) }
+        ensures accepted { IfOk result (λ log. IsAccepted newest log.proofs) }
+        ensures whole { IfOk result (λ log. IsWhole newest log.proofs) };
 }
 
 /// The thread that runs the call.

@@ -3,8 +3,9 @@ ghost use Rattle.std.specs.Prelude.{◌≡◌, ◌≤◌, ◌⊎◌, [], length,
 ghost use Rattle.desk_io.specs.Bytes.{Puts};
 ghost use Rattle.desk_io.specs.Causes.{HasCause, Rose};
 ghost use Rattle.gcl_reader.specs.Grammar.{Gives};
+ghost use Rattle.proof_log.specs.Headings.{heading_of};
 ghost use Rattle.proof_log.specs.Own.{IsOwn};
-ghost use Rattle.proof_log.specs.declared.limits.TheConstants.{VERSION};
+ghost use Rattle.prove_run.specs.Logs.{newest};
 ghost use Rattle.prove_run.specs.Whole.{IsWhole};
 ghost use Rattle.command_line.specs.Answer.{answer_from};
 ghost use Rattle.command_line.specs.Contract.{IsQuiet};
@@ -29,7 +30,8 @@ pub fn prove_file<P: Prover>(prover: &P, alloc: Global, bytes: &[u8]) -> Result<
     requires ready { P.ready }
     requires fits { length bytes.now ≤ MOST_BYTES }
     ensures value { Gives (λ log. log.proofs) result (proofs_of bytes.now) }
-    ensures whole { IfOk result (λ log. IsWhole VERSION log.proofs) }
+    ensures heading { IfOk result (λ log. heading_of log ≡ newest) }
+    ensures whole { IfOk result (λ log. IsWhole newest log.proofs) }
 {
     let file = read(alloc, bytes)?;
     let program = resolve(alloc, &file)?;
@@ -60,6 +62,7 @@ fn status_of(proofs: &[Proof]) -> Status
 /// Puts the log whole, with a pen that has gathered nothing.
 pub fn put_log<S: Sink>(log: &Log, mut pen: Pen, out: &mut S) -> Result<(), Failed>
     requires pen { pen ≡ [] }
+    requires heading { heading_of log.now ≡ newest }
     requires own { All IsOwn log.now.proofs }
     ensures bytes { Puts (S.written out.old) (S.written out.new) result (log_text log.now.proofs) }
     ensures cause { HasCause (S.faults out.old) (S.faults out.new) result }
@@ -75,7 +78,8 @@ pub fn put_log<S: Sink>(log: &Log, mut pen: Pen, out: &mut S) -> Result<(), Fail
 
 // Puts the log, and behind it the lines of its verdicts.
 fn put_proofs<S: Sink, N: Sink>(alloc: Global, log: &Log, out: &mut S, notes: &mut N) -> Status
-    requires { IsWhole VERSION log.now.proofs }
+    requires heading { heading_of log.now ≡ newest }
+    requires whole { IsWhole newest log.now.proofs }
     ensures ends { Ends (proved log.now.proofs)
         (S.written out.old) (S.written out.new) (N.written notes.old) (N.written notes.new) result }
     ensures status { (result ≡ Status.Done) ⊎ (result ≡ Status.Unproved)

@@ -4,7 +4,8 @@ ghost use Rattle.desk_io.specs.Causes.{Rose};
 ghost use Rattle.gcl_reader.specs.Grammar.{Gives};
 ghost use Rattle.proof_log.specs.Accepted.{IsAccepted};
 ghost use Rattle.proof_log.specs.Own.{IsOwn};
-ghost use Rattle.proof_log.specs.declared.limits.TheConstants.{VERSION};
+ghost use Rattle.proof_log.specs.Headings.{heading_of};
+ghost use Rattle.prove_run.specs.Logs.{newest};
 ghost use Rattle.prove_run.specs.Whole.{IsWhole};
 ghost use Rattle.trial_file.specs.Trial.{trial_text};
 ghost use Rattle.command_line.specs.Answer.{answer_from, text_answer};
@@ -93,7 +94,8 @@ fn tally_of(proofs: &[Proof]) -> Tally
 
 // The text of a log, in memory.
 fn log_bytes(alloc: Global, log: &Log) -> Result<Vec<u8>, AllocError>
-    requires { All IsOwn log.now.proofs }
+    requires heading { heading_of log.now ≡ newest }
+    requires own { All IsOwn log.now.proofs }
     ensures { IfOk result (λ bytes. bytes.items ≡ log_text log.now.proofs) }
 {
     let pen = Pen::open(alloc)?;
@@ -107,8 +109,8 @@ fn log_bytes(alloc: Global, log: &Log) -> Result<Vec<u8>, AllocError>
 // Checks the text of a log that a prover made. It is accepted, so what fails is for want of memory alone.
 fn confirm<D: Domain>(alloc: Global, domain: &D, log: &Log, bytes: &[u8]) -> Result<(), AllocError>
     requires text { bytes.now ≡ log_text log.now.proofs }
-    requires accepted { IsAccepted VERSION log.now.proofs }
-    requires whole { IsWhole VERSION log.now.proofs }
+    requires accepted { IsAccepted newest log.now.proofs }
+    requires whole { IsWhole newest log.now.proofs }
 {
     match check_text(alloc, domain, bytes) {
         Ok(_) => Ok(()),

@@ -1,17 +1,18 @@
 -- What an accepted log assures.
-use Rattle.std.proofs.Common.{◌≡◌, ℕ, suc, ◌/◌, List, [], ◌∷◌, ◌++◌, length, map, refl, sym, ap, subst, Result, Ok, Err, IfOk, IsTrue}
+use Rattle.std.proofs.Common.{◌≡◌, ℕ, suc, List, [], ◌∷◌, ◌++◌, length, map, refl, sym, ap, subst, Result, Ok, Err, IfOk, IsTrue, Bool, true, false}
 use Rattle.std.specs.List.{flat_map}
 use Rattle.std.proofs.lemmas.Bool.{and_from}
 use Rattle.poly_model.specs.Domain.{Operations}
 use Rattle.poly_model.specs.Polynomial.{Polynomial, is_over}
-use Rattle.poly_model.specs.declared.limits.TheConstants.{MOST_FUEL}
 use Rattle.poly_model.specs.declared.vars.VarName.{VarName}
 use Rattle.proof_steps.specs.declared.problem.Problem.{Problem}
 use Rattle.verdicts.specs.Claims.{Claims}
 use Rattle.assurance.specs.Assured.{TreesCover, VerdictsHold, TreesKeepVariables, all_over}
 use Rattle.assurance.specs.Polynomials.{of_verdict}
 use Rattle.proof_log.specs.Accepted.{IsAcceptedProof, AreAccepted}
+use Rattle.proof_steps.specs.Rules.{has_second}
 use Rattle.proof_log.specs.Grammar.{names_behind}
+use Rattle.proof_log.specs.Headings.{fuel_lines, share_of}
 use Rattle.proof_log.specs.Lines.{piece_lines, problem_lines, proof_lines, proofs_lines}
 use Rattle.proof_log.specs.Text.{AreLines}
 use Rattle.proof_log.specs.declared.line.LogLine.{LogLine}
@@ -89,7 +90,12 @@ module _ {M : Type 0} (o : Operations M) where
       (verdicts_of log)
   unfolding AreLines
   log_assured hold keep bytes log t =
-      all_assured hold keep t.version (MOST_FUEL / length log) 1 [] log t.accepted (lines_front [] (proofs_lines 1 log) (line.End ∷ []) t.lines.1.1)
+      all_assured hold keep t.heading.version (share_of t.heading.fuel (length log)) 1 [] log t.accepted
+      (lines_front [] (proofs_lines 1 log) (line.End ∷ []) (behind (has_second t.heading.version) t.lines.1))
+    where
+      behind : (b : Bool) → AreLines [] (fuel_lines b t.heading.fuel ++ (line.Proves (length log) ∷ (proofs_lines 1 log ++ line.End ∷ []))) → AreLines [] (proofs_lines 1 log ++ line.End ∷ [])
+      behind true l = l.1.1
+      behind false l = l.1
 
   pub are_assured : VerdictsHold o → TreesKeepVariables → (x : Result Checked CheckFault) (bytes : List ℕ) → Judged x bytes → IfOk x
       (λ checked. AreAssured o checked.problems checked.verdicts)
@@ -103,7 +109,7 @@ module _ {M : Type 0} (o : Operations M) where
     log = j.0;
     text = j.1;
     tells = j.2;
-    covered = all_covered cover j.1.version
-        (MOST_FUEL / length j.0) j.0 j.1.accepted;
+    covered = all_covered cover j.1.heading.version
+        (share_of j.1.heading.fuel (length j.0)) j.0 j.1.accepted;
   }
   is_covered cover (Err f) bytes j = tt

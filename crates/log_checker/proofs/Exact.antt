@@ -1,9 +1,11 @@
 -- Of no bytes two things are found.
-use Rattle.std.proofs.Common.{◌≡◌, ◌≢◌, ℕ, ◌+◌, List, [], ◌∷◌, ◌++◌, length, refl, sym, ◌∙◌, ap, arith, Option, Some, None, append_assoc, append-nil, subst, length-append, inl, inr, ◌⊎◌, true}
+use Rattle.std.proofs.Common.{◌≡◌, ◌≢◌, ℕ, ◌+◌, List, [], ◌∷◌, ◌++◌, length, refl, sym, ◌∙◌, ap, arith, Option, Some, None, append_assoc, append-nil, subst, length-append, inl, inr, ◌⊎◌, true, IsTrue}
 use Rattle.poly_model.specs.Names.{are_variables}
 use Rattle.poly_model.specs.declared.vars.VarName.{VarName}
 use Rattle.proof_log.specs.Grammar.{IsFront, IsUnended, Begins, Refuses, EndsEarly, names_behind}
 use Rattle.proof_log.specs.Lines.{log_lines}
+use Rattle.proof_log.specs.Settings.{unsettled, is_of, setting_after, setting_behind, AreOf}
+use Rattle.proof_log.specs.declared.setting.Setting.{Setting}
 use Rattle.proof_log.specs.Text.{row_of, line_text, names_after, text_of, AreLines}
 use Rattle.proof_log.specs.declared.line.LogLine.{LogLine}
 use Rattle.proof_log.specs.declared.line.LineWord.{LineWord}
@@ -63,6 +65,11 @@ unfolding AreLines names_behind
 all_lines names [] b h = h
 all_lines names (l ∷ a) b h = all_lines (names_after names l) a b h.1
 
+all_own : (k : Setting) (a b : List LogLine) → AreOf k (a ++ b) → AreOf (setting_behind k a) b
+unfolding AreOf setting_behind
+all_own k [] b h = h
+all_own k (l ∷ a) b h = all_own (setting_after k l) a b h.1
+
 names_all : (names : List VarName) (a : List LogLine) → are_variables names ≡ true → AreLines names a → are_variables (names_behind names a) ≡ true
 unfolding AreLines names_behind
 names_all names [] v h = v
@@ -76,13 +83,16 @@ no_cut (c ∷ a) (d ∷ b) x u v e = let t : a ++ 10 ∷ x ≡ b = cc in no_cut 
 
 no_more : (front b : List LogLine) (l : LogLine) (more : List LogLine) (y bytes : List ℕ) (s : Stops front bytes) → Begins b y bytes → b ≡ front ++ l ∷ more
     → rest_of front bytes s ≡ text_of (names_behind [] front) (l ∷ more) ++ y → ⊥
-unfolding text_of AreLines
+unfolding text_of AreLines AreOf
 no_more front b l more y bytes s g e f = by_stop s f where
   names : List VarName
   names = names_behind [] front
 
   fits : AreLines names (l ∷ more)
   fits = all_lines [] front (l ∷ more) (subst (AreLines []) e g.lines)
+
+  own : IsTrue (is_of (setting_behind unsettled front) l)
+  own = (all_own unsettled front (l ∷ more) (subst (AreOf unsettled) e g.own)).0
 
   v : are_variables names ≡ true
   v = names_all [] front refl (stop_begins front bytes s).lines
@@ -92,7 +102,7 @@ no_more front b l more y bytes s g e f = by_stop s f where
 
   first : IsFront (front ++ l ∷ [])
   first = record {
-    version = g.grammar.version;
+    heading = g.grammar.heading;
     log = g.grammar.log;
     fits = g.grammar.fits;
     more = more ++ g.grammar.more;
@@ -101,7 +111,7 @@ no_more front b l more y bytes s g e f = by_stop s f where
 
   by_stop : (t : Stops front bytes) → rest_of front bytes t ≡ text_of names (l ∷ more) ++ y → ⊥
   by_stop (inl r) h =
-      r.no_line l fits.0 first (same_cut r.refused (line_text names l) r.more tail r.one_line (line-plain names v l fits.0) (h ∙ append_assoc (line_text names l) (10 ∷ text_of (names_after names l) more) y)).0
+      r.no_line l fits.0 own first (same_cut r.refused (line_text names l) r.more tail r.one_line (line-plain names v l fits.0) (h ∙ append_assoc (line_text names l) (10 ∷ text_of (names_after names l) more) y)).0
   by_stop (inr r) h = no_cut (line_text names l) r.rest tail (line-plain names v l fits.0) r.unended (sym (h ∙ append_assoc (line_text names l) (10 ∷ text_of (names_after names l) more) y))
 
 -- so whatever else the bytes begin with is a front of what stands before the malformed line
@@ -153,11 +163,12 @@ malformed_rejected bytes n m w a b =
     let p = within a.front (b.front ++ b.line ∷ []) b.rest bytes a.stops b.begins in
     misfit_within b.front p.more b.line b.state a.state a.front b.fit b.misfit p.is a.fit
 
-whole_begins : (bytes : List ℕ) (log : List Proof) (t : IsAcceptedText log bytes) → Begins (log_lines t.version log) [] bytes
+whole_begins : (bytes : List ℕ) (log : List Proof) (t : IsAcceptedText log bytes) → Begins (log_lines t.heading log) [] bytes
 whole_begins bytes log t = record {
   lines = t.lines;
-  grammar = record { version = t.version; log = log; fits = t.fits; more = []; begins = sym (append-nil (log_lines t.version log)) };
-  text = t.text ∙ sym (append-nil (text_of [] (log_lines t.version log)));
+  own = t.own;
+  grammar = record { heading = t.heading; log = log; fits = t.fits; more = []; begins = sym (append-nil (log_lines t.heading log)) };
+  text = t.text ∙ sym (append-nil (text_of [] (log_lines t.heading log)));
 }
 
 nothing_behind : (names : List VarName) (more : List LogLine) (y : List ℕ) → ◌≡◌ {A = List ℕ} [] (text_of names more ++ y) → (more ≡ []) × (y ≡ [])
@@ -167,23 +178,23 @@ nothing_behind names (l ∷ more) y e =
     absurd (let h = ap length e in let a = length-append (line_text names l ++ 10 ∷ text_of (names_after names l) more) y in let b = length-append (line_text names l) (10 ∷ text_of (names_after names l) more) in omega (arith, h, a, b))
 
 accepted_malformed : (bytes : List ℕ) (log : List Proof) (n : ℕ) → IsAcceptedText log bytes → IsMalformed n bytes → ⊥
-accepted_malformed bytes log n t a = by_stop a.stops (within a.front (log_lines t.version log) [] bytes a.stops (whole_begins bytes log t)) where
-  by_stop : (s : Stops a.front bytes) → Longer [] (log_lines t.version log) a.front [] (rest_of a.front bytes s) → ⊥
+accepted_malformed bytes log n t a = by_stop a.stops (within a.front (log_lines t.heading log) [] bytes a.stops (whole_begins bytes log t)) where
+  by_stop : (s : Stops a.front bytes) → Longer [] (log_lines t.heading log) a.front [] (rest_of a.front bytes s) → ⊥
   by_stop (inl r) p =
-      let q = nothing_behind (names_behind [] (log_lines t.version log)) p.more (r.refused ++ 10 ∷ r.more) p.rest in
+      let q = nothing_behind (names_behind [] (log_lines t.heading log)) p.more (r.refused ++ 10 ∷ r.more) p.rest in
       let h = ap length q.1 in let k = length-append r.refused (10 ∷ r.more) in absurd (omega (arith, h, k))
   by_stop (inr r) p =
-      let q = nothing_behind (names_behind [] (log_lines t.version log)) p.more r.rest p.rest in
-      r.early q.1 (record { version = t.version; log = log; fits = t.fits; whole = p.is ∙ ap (λ l. log_lines t.version log ++ l) q.0 ∙ append-nil (log_lines t.version log) })
+      let q = nothing_behind (names_behind [] (log_lines t.heading log)) p.more r.rest p.rest in
+      r.early q.1 (record { heading = t.heading; log = log; fits = t.fits; whole = p.is ∙ ap (λ l. log_lines t.heading log ++ l) q.0 ∙ append-nil (log_lines t.heading log) })
 
 accepted_rejected : (bytes : List ℕ) (log : List Proof) (n : ℕ) (w : LineWord) → IsAcceptedText log bytes → IsRejected n w bytes → ⊥
 accepted_rejected bytes log n w t b =
-    let goes = log_goes t.version log t.accepted in
-    elim (begins_two (b.front ++ b.line ∷ []) (log_lines t.version log) b.rest [] bytes b.begins (whole_begins bytes log t)) [
-      | inl r ↦ misfit_within b.front r.more b.line b.state goes.0 (log_lines t.version log) b.fit b.misfit r.is goes.1
-      | inr r ↦ let q = nothing_behind (names_behind [] (log_lines t.version log)) r.more b.rest r.rest in
-          misfit_within b.front [] b.line b.state goes.0 (log_lines t.version log) b.fit b.misfit
-          (sym (r.is ∙ ap (λ l. log_lines t.version log ++ l) q.0 ∙ append-nil (log_lines t.version log)) ∙ sym (append-nil (b.front ++ b.line ∷ []))) goes.1
+    let goes = log_goes t.heading log t.stated t.accepted in
+    elim (begins_two (b.front ++ b.line ∷ []) (log_lines t.heading log) b.rest [] bytes b.begins (whole_begins bytes log t)) [
+      | inl r ↦ misfit_within b.front r.more b.line b.state goes.0 (log_lines t.heading log) b.fit b.misfit r.is goes.1
+      | inr r ↦ let q = nothing_behind (names_behind [] (log_lines t.heading log)) r.more b.rest r.rest in
+          misfit_within b.front [] b.line b.state goes.0 (log_lines t.heading log) b.fit b.misfit
+          (sym (r.is ∙ ap (λ l. log_lines t.heading log ++ l) q.0 ∙ append-nil (log_lines t.heading log)) ∙ sym (append-nil (b.front ++ b.line ∷ []))) goes.1
     ]
 
 snoc_same : (a b : List LogLine) (l m : LogLine) → a ++ l ∷ [] ≡ b ++ m ∷ [] → (a ≡ b) × (l ≡ m)
@@ -216,7 +227,7 @@ two_rejected bytes n m w v a b = elim (begins_two (a.front ++ a.line ∷ []) (b.
 
 pub one_finding : (bytes : List ℕ) (x y : Finding) → IsFound x bytes → IsFound y bytes → x ≡ y
 one_finding bytes (Accepted ps) (Accepted qs) a b =
-    ap Accepted (one_log_text a.version b.version ps qs a.fits.written b.fits.written a.lines b.lines (sym a.text ∙ b.text)).1
+    ap Accepted (one_log_text a.heading b.heading ps qs a.stated b.stated a.fits.written b.fits.written a.lines b.lines (sym a.text ∙ b.text)).1
 one_finding bytes (Accepted ps) (Malformed n) a b = absurd (accepted_malformed bytes ps n a b)
 one_finding bytes (Accepted ps) (Rejected n w) a b = absurd (accepted_rejected bytes ps n w a b)
 one_finding bytes (Malformed n) (Accepted qs) a b = absurd (accepted_malformed bytes qs n b a)

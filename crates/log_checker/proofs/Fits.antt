@@ -1,13 +1,12 @@
 -- The lines of a log fit, each in its turn, exactly where the log is accepted.
-use Rattle.std.proofs.Common.{◌≡◌, ℕ, zero, suc, ◌/◌, List, [], ◌∷◌, ◌++◌, length, map, refl, sym, ◌∙◌, ap, Bool, true, false, ◌&&◌, append_assoc}
+use Rattle.std.proofs.Common.{◌≡◌, ℕ, zero, suc, List, [], ◌∷◌, ◌++◌, length, map, refl, sym, ◌∙◌, ap, Bool, true, false, ◌&&◌, append_assoc}
 use Rattle.std.specs.Prelude.{Option, Some, None, if◌then◌else◌, nat_le, ◌==◌}
 use Rattle.std.specs.List.{flat_map, list_all}
 use Rattle.std.proofs.lemmas.Bool.{and_parts, and_from, eqb-true, eq-eqb}
 use Rattle.std.proofs.lemmas.List.{append-nil}
 use mathlib.Core.Bool.{and_assoc}
 use Rattle.poly_model.specs.Polynomial.{Polynomial}
-use Rattle.poly_model.specs.declared.limits.TheConstants.{MOST_FUEL}
-use Rattle.proof_steps.specs.Rules.{size_of}
+use Rattle.proof_steps.specs.Rules.{has_second, size_of}
 use Rattle.proof_steps.specs.Reasons.{rank, same_reason}
 use Rattle.poly_model.specs.Reduction.{same}
 use Rattle.proof_steps.specs.Trees.{after_steps, same_path, same_list, outcome_fits, children, follow, follow_at, are_trees, root_of, is_tree_of}
@@ -26,6 +25,8 @@ use Rattle.verdicts.specs.declared.verdict.Verdict.TheVariants as verdict
 use Rattle.verdicts.specs.Tallies.{Ending, ending_of, Tally, no_tally, tally_after, tally_of, verdict_told}
 use Rattle.proof_log.specs.declared.line.LogLine.{LogLine}
 use Rattle.proof_log.specs.declared.line.LogLine.TheVariants as line
+use Rattle.proof_log.specs.Headings.{Heading, IsHeading, fuel_lines, share_of}
+use Rattle.proof_log.specs.declared.limits.TheConstants.{FIRST_FUEL}
 use Rattle.proof_log.specs.declared.log.Proof.{Proof}
 use Rattle.proof_log.specs.Lines.{step_line, status_line, list_lines, outcome_lines, work_lines, piece_lines, proof_lines, proofs_lines, log_lines, PiecesWritten, LogWritten}
 use Rattle.log_checker.specs.Fitting.{Inside, At, listed, where_fits, in_piece, read, end_of, Part, Opening, Within, Between, State, begin, behind, node_settled, verdict_settled, same_verdict, inside_row, is_own_part, by_part, after, fitted}
@@ -377,13 +378,29 @@ proofs-go s k (p ∷ ps) w a =
           ∙ more.1,
     )
 
-pub log_accepted : (version : ℕ) (log : List Proof) (t : State) → LogWritten log → fitted begin (log_lines version log) ≡ Some t → IsAccepted version log
+-- behind the head, with the fuel that the log states or that all of the first version have
+behind-head : (h : Heading) (log : List Proof) → IsHeading h
+    → fitted begin (log_lines h log) ≡ fitted (st h.version (share_of h.fuel (length log)) [] [] Between [] no_tally) (proofs_lines 1 log ++ line.End ∷ [])
 unfolding fitted after
-log_accepted version log t w e = proofs-accepted (st version (MOST_FUEL / length log) [] [] Between [] no_tally) 1 log t w e
+behind-head h log stated = by (has_second h.version) stated
+  where
+    rest : List LogLine
+    rest = proofs_lines 1 log ++ line.End ∷ []
 
-pub log_goes : (version : ℕ) (log : List Proof) → IsAccepted version log → (t : State) × (fitted begin (log_lines version log) ≡ Some t)
-unfolding fitted after
-log_goes version log a = proofs-go (st version (MOST_FUEL / length log) [] [] Between [] no_tally) 1 log (accepted-written version (MOST_FUEL / length log) log a) a
+    by : (b : Bool) → (b ≡ false → h.fuel ≡ FIRST_FUEL)
+        → fitted (st h.version FIRST_FUEL [] [] Between [] no_tally) (fuel_lines b h.fuel ++ (line.Proves (length log) ∷ rest)) ≡ fitted (st h.version (share_of h.fuel (length log)) [] [] Between [] no_tally) rest
+    by true e = refl
+    by false e = ap (λ f. fitted (st h.version (share_of f (length log)) [] [] Between [] no_tally) rest) (sym (e refl))
+
+pub log_accepted : (h : Heading) (log : List Proof) (t : State) → IsHeading h → LogWritten log → fitted begin (log_lines h log) ≡ Some t → IsAccepted h log
+log_accepted h log t stated w e =
+    proofs-accepted (st h.version (share_of h.fuel (length log)) [] [] Between [] no_tally) 1 log t w (sym (behind-head h log stated) ∙ e)
+
+pub log_goes : (h : Heading) (log : List Proof) → IsHeading h → IsAccepted h log → (t : State) × (fitted begin (log_lines h log) ≡ Some t)
+log_goes h log stated a =
+    let fuel = share_of h.fuel (length log) in
+    let more = proofs-go (st h.version fuel [] [] Between [] no_tally) 1 log (accepted-written h.version fuel log a) a in
+    (more.0, behind-head h log stated ∙ more.1)
 
 -- what fits is followed
 pub follows-again : (version : ℕ) (cons : List Polynomial) (n : Node) (p : Piece) (ms : List Node) (f : Rattle.proof_steps.proofs.Following.Fits version cons n p ms) → follow version cons n p ≡ Some ms

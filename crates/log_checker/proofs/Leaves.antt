@@ -29,6 +29,7 @@ ended-none version cons ms e (line.Unreduced k reason f) = refl
 ended-none version cons ms e (line.Eq p) = refl
 ended-none version cons ms e (line.Ne p) = refl
 ended-none version cons ms e (line.Head v) = refl
+ended-none version cons ms e (line.Fuel n) = refl
 ended-none version cons ms e (line.Proves n) = refl
 ended-none version cons ms e (line.Prove k) = refl
 ended-none version cons ms e (line.Vars names) = refl

@@ -4,6 +4,8 @@ use Rattle.std.proofs.lemmas.Grind.{common_steps}
 use Rattle.poly_model.specs.declared.vars.VarName.{VarName}
 use Rattle.proof_log.specs.Feeding.{Fed, FedWith, IsFed, FedTo, Stopped}
 use Rattle.proof_log.specs.Grammar.{Begins, Refuses, EndsEarly, names_behind}
+use Rattle.proof_log.specs.Settings.{unsettled, setting_after, AreOf}
+use Rattle.proof_log.specs.declared.setting.Setting.{Setting}
 use Rattle.proof_log.specs.Text.{row_of, line_text, names_after, text_of, AreLines}
 use Rattle.proof_log.specs.declared.line.LogLine.{LogLine}
 use Rattle.proof_log.specs.declared.line.LineWord.{LineWord}
@@ -83,6 +85,11 @@ unfolding AreLines
 lines_front names [] b h = tt
 lines_front names (l ∷ a) b h = (h.0, lines_front (names_after names l) a b h.1)
 
+own_front : (k : Setting) (a b : List LogLine) → AreOf k (a ++ b) → AreOf k a
+unfolding AreOf
+own_front k [] b h = tt
+own_front k (l ∷ a) b h = (h.0, own_front (setting_after k l) a b h.1)
+
 text_append : (names : List VarName) (a b : List LogLine) → text_of names (a ++ b) ≡ text_of names a ++ text_of (names_behind names a) b
 unfolding text_of names_behind
 text_append names [] b = refl
@@ -93,8 +100,9 @@ text_append names (l ∷ a) b =
 begins_front : (a b : List LogLine) (rest bytes : List ℕ) → Begins (a ++ b) rest bytes → Begins a (text_of (names_behind [] a) b ++ rest) bytes
 begins_front a b rest bytes h = record {
   lines = lines_front [] a b h.lines;
+  own = own_front unsettled a b h.own;
   grammar = record {
-    version = h.grammar.version;
+    heading = h.grammar.heading;
     log = h.grammar.log;
     fits = h.grammar.fits;
     more = b ++ h.grammar.more;
@@ -117,7 +125,7 @@ few_lines a rest bytes h = let t = text_long [] a in let e = ap length h.text in
 -- what fed bytes begin with
 fed_begins : (x : Result (Unit {0}) LogFault) (front : List LogLine) (r : LogReader) (bytes : List ℕ) → FedTo x front r bytes →
     (rest : List ℕ) × Begins front rest bytes
-fed_begins (Ok u) front r bytes f = (r.held.items, record { lines = f.lines; grammar = front_is r.place front f.place; text = f.text })
+fed_begins (Ok u) front r bytes f = (r.held.items, record { lines = f.lines; own = f.own; grammar = front_is r.place front f.place; text = f.text })
 fed_begins (Err (log.Malformed n)) front r bytes f = let s : Stopped front bytes n = subst (λ o. FedWith o front r bytes) f.0 f.1 in (_, s.refuses.begins)
 fed_begins (Err log.OutOfMemory) front r bytes f = subst (λ o. FedWith o front r bytes) f.0 f.1
 

@@ -1,5 +1,6 @@
 -- What the lines of a log tell: its problems and its verdicts.
-use Rattle.std.proofs.Common.{◌≡◌, ℕ, suc, List, [], ◌∷◌, ◌++◌, map, refl, sym, ◌∙◌, ap, append_assoc, append-nil, subst}
+use Rattle.std.proofs.Common.{◌≡◌, ℕ, suc, List, [], ◌∷◌, ◌++◌, map, refl, sym, ◌∙◌, ap, append_assoc, append-nil, subst, Bool, true, false}
+use Rattle.std.specs.Prelude.{if◌then◌else◌}
 use Rattle.std.specs.List.{flat_map}
 use Rattle.poly_model.specs.Polynomial.{Polynomial}
 use Rattle.poly_model.specs.declared.vars.VarName.{VarName}
@@ -15,6 +16,10 @@ use Rattle.verdicts.specs.declared.verdict.Verdict.{Verdict}
 use Rattle.proof_log.specs.Lines.{step_line, status_line, list_lines, outcome_lines, piece_lines, problem_lines, proof_lines, proofs_lines, log_lines}
 use Rattle.proof_log.specs.declared.line.LogLine.{LogLine}
 use Rattle.proof_log.specs.declared.line.LogLine.TheVariants as line
+use Rattle.proof_steps.specs.Rules.{has_second}
+use Rattle.proof_log.specs.Headings.{Heading, IsHeading, fuel_lines}
+use Rattle.proof_log.specs.Settings.{unsettled, AreOf}
+use Rattle.proof_log.specs.declared.limits.TheConstants.{FIRST_FUEL}
 use Rattle.proof_log.specs.declared.log.Proof.{Proof}
 use Rattle.log_checker.specs.Checked.{problems_of, verdicts_of}
 use Rattle.log_checker.specs.Gathering.{Gathered, nothing, gathered, gathered_after}
@@ -136,24 +141,52 @@ tells_proofs problems verdicts vars k (p ∷ ps) =
     ∙ (λ i. between (append_assoc problems (p.problem ∷ []) (problems_of ps) i) (append_assoc verdicts (p.verdict ∷ []) (verdicts_of ps) i)
     (last_vars p.problem.vars ps))
 
-pub log_told : (version : ℕ) (log : List Proof) → gathered nothing (log_lines version log) ≡ between (problems_of log) (verdicts_of log) (last_vars [] log)
+pub log_told : (h : Heading) (log : List Proof) → gathered nothing (log_lines h log) ≡ between (problems_of log) (verdicts_of log) (last_vars [] log)
 unfolding gathered
-log_told version log = gathered_append nothing (proofs_lines 1 log) (line.End ∷ []) ∙ ap (λ g. gathered g (line.End ∷ [])) (tells_proofs [] [] [] 1 log)
+log_told h log = by (has_second h.version)
+  where
+    behind : gathered nothing (proofs_lines 1 log ++ line.End ∷ []) ≡ between (problems_of log) (verdicts_of log) (last_vars [] log)
+    behind = gathered_append nothing (proofs_lines 1 log) (line.End ∷ []) ∙ ap (λ g. gathered g (line.End ∷ [])) (tells_proofs [] [] [] 1 log)
+
+    by : (b : Bool) → gathered nothing (fuel_lines b h.fuel ++ (line.Proves (length log) ∷ (proofs_lines 1 log ++ line.End ∷ []))) ≡ between (problems_of log) (verdicts_of log) (last_vars [] log)
+    by true = behind
+    by false = behind
+
+-- lines show the fuel of their log only where it is stated: where it is not, it is that of all logs of the first version
+shown : Heading → Heading
+shown h = record h { fuel = if has_second h.version then h.fuel else FIRST_FUEL }
+
+shown-stated : (h : Heading) → IsHeading (shown h)
+unfolding shown
+shown-stated h e = ap (λ b. if b then h.fuel else FIRST_FUEL) e
+
+shown-lines : (h : Heading) (log : List Proof) → log_lines h log ≡ log_lines (shown h) log
+unfolding shown
+shown-lines h log = by (has_second h.version)
+  where
+    by : (b : Bool) → line.Head h.version ∷ (fuel_lines b h.fuel ++ (line.Proves (length log) ∷ (proofs_lines 1 log ++ line.End ∷ [])))
+        ≡ line.Head h.version ∷ (fuel_lines b (if b then h.fuel else FIRST_FUEL) ++ (line.Proves (length log) ∷ (proofs_lines 1 log ++ line.End ∷ [])))
+    by true = refl
+    by false = refl
 
 -- the bytes have ended behind lines that fit
 pub ends_well : (front : List LogLine) (p : Progress) (bytes : List ℕ) (seen : ℕ) (checked : Checked) → Whole front bytes → IsBehind front p seen
     → checked.problems ≡ p.told.problems.items → checked.verdicts ≡ p.told.verdicts.items → (log : List Proof) × IsAcceptedText log bytes × Tells checked log
 ends_well front p bytes seen checked w h problems verdicts =
     let log = w.whole.log in
-    let version = w.whole.version in
-    let told = h.told ∙ ap (gathered nothing) w.whole.whole ∙ log_told version log in (
+    let heading = shown w.whole.heading in
+    let stated = shown-stated w.whole.heading in
+    let whole : front ≡ log_lines heading log = w.whole.whole ∙ shown-lines w.whole.heading log in
+    let told = h.told ∙ ap (gathered nothing) whole ∙ log_told heading log in (
       log,
       record {
-        version = version;
+        heading = heading;
+        stated = stated;
         fits = w.whole.fits;
-        lines = subst (λ t. AreLines [] t) w.whole.whole w.lines;
-        text = w.text ∙ ap (text_of []) w.whole.whole;
-        accepted = log_accepted version log (state_of p.checker) w.whole.fits.written (ap (fitted begin) (sym w.whole.whole) ∙ h.fit);
+        lines = subst (λ t. AreLines [] t) whole w.lines;
+        own = subst (λ t. AreOf unsettled t) whole w.own;
+        text = w.text ∙ ap (text_of []) whole;
+        accepted = log_accepted heading log (state_of p.checker) stated w.whole.fits.written (ap (fitted begin) (sym whole) ∙ h.fit);
       },
       record { problems = problems ∙ ap (λ (g : Gathered). g.problems) told; verdicts = verdicts ∙ ap (λ (g : Gathered). g.verdicts) told },
     )

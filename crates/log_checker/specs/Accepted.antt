@@ -6,6 +6,7 @@ use Rattle.proof_steps.specs.declared.piece.Node.{Node}
 use Rattle.proof_steps.specs.declared.piece.Piece.{Piece}
 use Rattle.verdicts.specs.Tallies.{Ending, ending_of}
 use Rattle.proof_log.specs.Accepted.{IsAccepted}
+use Rattle.proof_log.specs.Headings.{Heading, IsHeading}
 use Rattle.proof_log.specs.declared.log.Proof.{Proof}
 use Rattle.proof_log.specs.Lines.{work_lines, log_lines, PieceWritten, LogWritten}
 use Rattle.log_checker.specs.Fitting.{At, listed, read, end_of, State, begin, fitted}
@@ -27,11 +28,11 @@ abbrev pub PiecesAreWritten : Type 0
 PiecesAreWritten = (version : ℕ) (cons : List Polynomial) (n : Node) (p : Piece) (ms : List Node) → follow version cons n p ≡ Some ms → PieceWritten cons p
 
 -- The lines fit one after the other.
-abbrev pub Fits : (version : ℕ) → List Proof → Type 0
-Fits version log = (t : State) × (fitted begin (log_lines version log) ≡ Some t)
+abbrev pub Fits : Heading → List Proof → Type 0
+Fits h log = (t : State) × (fitted begin (log_lines h log) ≡ Some t)
 
 abbrev pub FittingIsAccepted : Type 0
-FittingIsAccepted = (version : ℕ) (log : List Proof) → LogWritten log → Fits version log ↔ IsAccepted version log
+FittingIsAccepted = (h : Heading) (log : List Proof) → IsHeading h → LogWritten log → Fits h log ↔ IsAccepted h log
 
 abbrev pub AcceptedGoesOn : Type 0
-AcceptedGoesOn = (version : ℕ) (log : List Proof) → IsAccepted version log → LogWritten log × Fits version log
+AcceptedGoesOn = (h : Heading) (log : List Proof) → IsHeading h → IsAccepted h log → LogWritten log × Fits h log

@@ -2,7 +2,9 @@
 use Rattle.std.specs.Prelude.{◌≡◌, ℕ, ◌+◌, List, [], ◌∷◌, ◌++◌, ◌⊎◌, length, Some, None}
 use Rattle.proof_log.specs.Accepted.{IsAccepted}
 use Rattle.proof_log.specs.Grammar.{IsLog, Begins, Refuses, EndsEarly}
+use Rattle.proof_log.specs.Headings.{Heading, IsHeading}
 use Rattle.proof_log.specs.Lines.{log_lines}
+use Rattle.proof_log.specs.Settings.{unsettled, AreOf}
 use Rattle.proof_log.specs.Text.{row_of, text_of, AreLines}
 use Rattle.proof_log.specs.declared.line.LogLine.{LogLine}
 use Rattle.proof_log.specs.declared.line.LineWord.{LineWord}
@@ -16,11 +18,13 @@ pub data Finding : Type 0 where
 
 -- The bytes are the text of a log of these proofs, which is accepted.
 pub record IsAcceptedText (log : List Proof) (bytes : List ℕ) : Type 0 where
-  pub version : ℕ
+  pub heading : Heading
+  pub stated : IsHeading heading
   pub fits : IsLog log
-  pub lines : AreLines [] (log_lines version log)
-  pub text : bytes ≡ text_of [] (log_lines version log)
-  pub accepted : IsAccepted version log
+  pub lines : AreLines [] (log_lines heading log)
+  pub own : AreOf unsettled (log_lines heading log)
+  pub text : bytes ≡ text_of [] (log_lines heading log)
+  pub accepted : IsAccepted heading log
 
 -- The line of a number is malformed: the grammar refuses it, or the bytes end there too early. Each line before it fits.
 pub record IsMalformed (n : ℕ) (bytes : List ℕ) : Type 0 where

@@ -1,7 +1,6 @@
 -- When a line fits what stands before it: a row for each kind of line.
-use Rattle.std.specs.Prelude.{ℕ, ◌+◌, ◌-◌, ◌/◌, ◌==◌, ◌&&◌, List, [], ◌∷◌, ◌++◌, length, Bool, true, false, nat_le, Option, Some, None}
+use Rattle.std.specs.Prelude.{ℕ, ◌+◌, ◌-◌, ◌==◌, ◌&&◌, List, [], ◌∷◌, ◌++◌, length, Bool, true, false, nat_le, Option, Some, None}
 use Rattle.poly_model.specs.Polynomial.{Polynomial}
-use Rattle.poly_model.specs.declared.limits.TheConstants.{MOST_FUEL}
 use Rattle.poly_model.specs.Reduction.{same, is_nonzero_constant, primitive_initial}
 use Rattle.proof_steps.specs.Numbers.{item, has}
 use Rattle.proof_steps.specs.Reasons.{same_reason}
@@ -20,6 +19,8 @@ use Rattle.proof_steps.specs.declared.step.Step.TheVariants as step
 use Rattle.verdicts.specs.declared.verdict.Verdict.{Verdict}
 use Rattle.verdicts.specs.declared.verdict.Verdict.TheVariants as verdict
 use Rattle.verdicts.specs.Tallies.{Ending, Parts, Empty, Proves, Remains, Stops, Tally, no_tally, tally_after, verdict_told}
+use Rattle.proof_log.specs.Headings.{share_of}
+use Rattle.proof_log.specs.declared.limits.TheConstants.{FIRST_FUEL}
 use Rattle.proof_log.specs.declared.line.LogLine.{LogLine}
 use Rattle.proof_log.specs.declared.line.LogLine.TheVariants as line
 
@@ -148,6 +149,7 @@ in_piece version cons i (line.Unreduced k reason f) = in_chain i (λ E fuel due.
 in_piece version cons i (line.Eq p) = eq_row p i.eqs i.nes i.work
 in_piece version cons i (line.Ne p) = ne_row p i.eqs i.nes i.work
 in_piece version cons i (line.Head v) = None
+in_piece version cons i (line.Fuel fuel) = None
 in_piece version cons i (line.Proves n) = None
 in_piece version cons i (line.Prove k) = None
 in_piece version cons i (line.Vars names) = None
@@ -183,7 +185,7 @@ pub data Part : Type 0 where
   Within : List Bool → Inside → Part  -- the piece of this path
   Between : Part  -- no piece is open
 
--- The version and the fuel of each proof; the problem so far; where the log stands; the nodes that wait for their pieces,
+-- The version; the fuel of all proofs, and behind their number that of each; the problem so far; where the log stands; the nodes that wait for their pieces,
 -- the next one first; and the tally of the pieces so far.
 pub record State : Type 0 where
   pub version : ℕ
@@ -246,8 +248,9 @@ inside_row s l Between = None
 
 -- A line by the part of the log that it stands in.
 abbrev pub by_part : State → LogLine → Part → Option State
-by_part s (line.Head version) part = Some (record s { version = version })
-by_part s (line.Proves n) part = Some (record s { fuel = MOST_FUEL / n })
+by_part s (line.Head version) part = Some (record s { version = version; fuel = FIRST_FUEL })
+by_part s (line.Fuel fuel) part = Some (record s { fuel = fuel })
+by_part s (line.Proves n) part = Some (record s { fuel = share_of s.fuel n })
 by_part s (line.Prove k) part = Some (record s { hyps = []; cons = []; part = Opening; waiting = []; tally = no_tally })
 by_part s (line.Vars names) part = Some s
 by_part s (line.Hyp p) part = where_fits (is_own_part p) (record s { hyps = s.hyps ++ p ∷ [] })

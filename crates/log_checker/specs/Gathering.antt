@@ -32,6 +32,7 @@ gathered_after g (line.Hyp p) = record g { hyps = g.hyps ++ p ∷ [] }
 gathered_after g (line.Con p) = record g { cons = g.cons ++ p ∷ [] }
 gathered_after g (line.Verdict v) = with_verdict g v
 gathered_after g (line.Head version) = g
+gathered_after g (line.Fuel fuel) = g
 gathered_after g (line.Proves n) = g
 gathered_after g (line.Prove k) = g
 gathered_after g (line.Node path) = g

@@ -1,6 +1,7 @@
 // The lines of a log, one at a time.
-ghost use Rattle.std.specs.Prelude.{◌≡◌, ◌/◌, ◌∷◌, ◌++◌, [], nat_le, IfOk, OnOk};
-ghost use Rattle.poly_model.specs.declared.limits.TheConstants.{MOST_FUEL};
+ghost use Rattle.std.specs.Prelude.{◌≡◌, ◌∷◌, ◌++◌, [], nat_le, IfOk, OnOk};
+ghost use Rattle.proof_log.specs.Headings.{share_of};
+ghost use Rattle.proof_log.specs.declared.limits.TheConstants.{FIRST_FUEL};
 ghost use Rattle.proof_steps.specs.Rules.{size_of};
 ghost use Rattle.verdicts.specs.Tallies.{Parts, no_tally, tally_after};
 ghost use Rattle.log_checker.specs.Checkers.{state_of};
@@ -15,8 +16,8 @@ use crate::node::with_fuel;
 use crate::piece::Inside;
 use crate::tally::Tally;
 use crate::within::line_within;
-use poly_model::{EXPAND_UNITS, MOST_FUEL, OwnedPoly, Row};
-use proof_log::LogLine;
+use poly_model::{EXPAND_UNITS, OwnedPoly, Row};
+use proof_log::{FIRST_FUEL, LogLine};
 use proof_steps::{Node, Path};
 use std::alloc::{AllocError, Global};
 use std::mem;
@@ -38,6 +39,7 @@ pub struct LineChecker {
     alloc: Global,
     store: VecStore,
     version: u8,
+    /// The fuel of all proofs, and behind their number that of each.
     fuel: u32,
     hyps: Vec<OwnedPoly>,
     cons: Vec<OwnedPoly>,
@@ -47,14 +49,14 @@ pub struct LineChecker {
     tally: Tally,
 }
 
-/// The fuel of each of so many proofs.
-fn fuel_of_each(proofs: u8) -> u32
-    ensures { result ≡ MOST_FUEL / proofs }
+/// The share of each of so many proofs.
+fn share_of(fuel: u32, proofs: u8) -> u32
+    ensures { result ≡ share_of fuel proofs }
 {
     if proofs == 0 {
         0
     } else {
-        MOST_FUEL / u32::from(proofs)
+        fuel / u32::from(proofs)
     }
 }
 
@@ -81,18 +83,28 @@ impl LineChecker {
         })
     }
 
-    /// Reads the version.
+    /// Reads the version. A log of the first has always the same fuel.
     fn read_version(&mut self, version: u8)
-        ensures { state_of self.new ≡ record (state_of self.old) { version = version } }
+        ensures { state_of self.new ≡ record (state_of self.old)
+            { version = version; fuel = FIRST_FUEL } }
     {
         self.version = version;
+        self.fuel = FIRST_FUEL;
+    }
+
+    /// Reads the fuel of all proofs.
+    fn read_fuel(&mut self, fuel: u32)
+        ensures { state_of self.new ≡ record (state_of self.old) { fuel = fuel } }
+    {
+        self.fuel = fuel;
     }
 
     /// Reads the number of the proofs.
     fn read_proofs(&mut self, proofs: u8)
-        ensures { state_of self.new ≡ record (state_of self.old) { fuel = MOST_FUEL / proofs } }
+        ensures { state_of self.new ≡ record (state_of self.old)
+            { fuel = share_of (state_of self.old).fuel proofs } }
     {
-        self.fuel = fuel_of_each(proofs);
+        self.fuel = share_of(self.fuel, proofs);
     }
 
     /// Comes to a problem of which nothing is told yet.
@@ -286,6 +298,7 @@ impl LineChecker {
     {
         match line {
             LogLine::Head(version) => self.read_version(version),
+            LogLine::Fuel(fuel) => self.read_fuel(fuel),
             LogLine::Proves(proofs) => self.read_proofs(proofs),
             LogLine::Prove(_) => self.open_problem(),
             LogLine::Vars(_) | LogLine::End => {}

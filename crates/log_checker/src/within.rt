@@ -54,6 +54,7 @@ fn at_node<S: TermStore>(
         LogLine::Eq(_) => Ok(None),
         LogLine::Ne(_) => Ok(None),
         LogLine::Head(_) => Ok(None),
+        LogLine::Fuel(_) => Ok(None),
         LogLine::Proves(_) => Ok(None),
         LogLine::Prove(_) => Ok(None),
         LogLine::Vars(_) => Ok(None),

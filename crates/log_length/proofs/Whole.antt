@@ -1,23 +1,25 @@
 -- The lines of a log that is accepted are short.
-use Rattle.std.proofs.Common.{◌≡◌, ℕ, ◌+◌, ◌*◌, ◌/◌, ◌≤◌, suc, List, [], ◌∷◌, ◌++◌, length, map, refl, sym, ◌∙◌, ap, subst, arith, Bool}
+use Rattle.std.proofs.Common.{◌≡◌, ℕ, ◌+◌, ◌*◌, ◌/◌, ◌≤◌, suc, List, [], ◌∷◌, ◌++◌, length, map, refl, sym, ◌∙◌, ap, subst, arith, Bool, true, false}
 use Rattle.std.specs.Prelude.{Option, Some, None}
 use Rattle.std.specs.List.{flat_map}
 use Rattle.std.proofs.Math.Nat.{mul-div-le}
 use Rattle.poly_model.specs.Polynomial.{Polynomial}
-use Rattle.poly_model.specs.declared.limits.TheConstants.{MOST_TERMS, MOST_FUEL}
-use Rattle.proof_steps.specs.Rules.{sizes}
+use Rattle.poly_model.specs.declared.limits.TheConstants.{MOST_TERMS}
+use Rattle.proof_steps.specs.Rules.{sizes, has_second}
 use Rattle.tree_laws.proofs.Paid.{trees-are-paid}
 use Rattle.verdicts.specs.declared.verdict.Verdict.{Verdict}
 use Rattle.verdicts.specs.declared.verdict.Verdict.TheVariants as verdict
 use Rattle.verdicts.specs.Verdicts.{under}
 use Rattle.verdicts.specs.Tallies.{Ending, Parts, Empty, Proves, Remains, Stops, Tally, no_tally, tally_of, verdict_at, verdict_told}
+use Rattle.proof_log.specs.declared.line.LogLine.{LogLine}
 use Rattle.proof_log.specs.declared.line.LogLine.TheVariants as line
 use Rattle.proof_log.specs.declared.log.Proof.{Proof}
-use Rattle.proof_log.specs.Lines.{piece_lines, proof_lines, proofs_lines}
-use Rattle.proof_log.specs.Lengths.{term_most, head_most, verdict_most, lines_all}
+use Rattle.proof_log.specs.Headings.{Heading, fuel_lines}
+use Rattle.proof_log.specs.Lines.{heading_lines, piece_lines, proof_lines, proofs_lines}
+use Rattle.proof_log.specs.Lengths.{term_most, head_most, names_most, verdict_most, lines_all}
 use Rattle.proof_log.specs.Accepted.{IsAcceptedProof, AreAccepted}
 use Rattle.assurance.proofs.Tally.{tally_tells}
-use Rattle.log_length.specs.Short.{HasFewTerms, HaveFewTerms, PiecesArePaid, ConditionsArePaid, AcceptedIsShort}
+use Rattle.log_length.specs.Short.{HasFewTerms, HaveFewTerms, PiecesArePaid, ConditionsArePaid, AcceptedIsShort, stated_most}
 use Rattle.log_length.proofs.Pieces.{all-append, polys-all, pieces-all}
 use Rattle.log_length.proofs.Under.{conditions-cost}
 
@@ -75,9 +77,9 @@ verdict-short fuel (verdict.Left path why) h = omega arith
 
 -- ---- a proof
 abbrev proof_room : ℕ
-proof_room = 3 * head_most + verdict_room
+proof_room = head_most + names_most + verdict_room
 
-proof-short : (version fuel k : ℕ) (p : Proof) → IsAcceptedProof version fuel p → HasFewTerms p → lines_all (proof_lines k p) ≤ proof_room + term_most * 700 + 2 * term_most * fuel
+proof-short : (version fuel k : ℕ) (p : Proof) → IsAcceptedProof version fuel p → HasFewTerms p → lines_all (proof_lines k p) ≤ proof_room + term_most * stated_most + 2 * term_most * fuel
 proof-short version fuel k p a small =
     let hyps = map line.Hyp p.problem.hyps in
     let cons = map line.Con p.problem.cons in
@@ -95,7 +97,7 @@ suc-times : (n f : ℕ) → suc n * f ≡ f + n * f
 suc-times n f = grind arith
 
 proofs-short : (version fuel k : ℕ) (ps : List Proof) → AreAccepted version fuel ps → HaveFewTerms ps
-    → lines_all (proofs_lines k ps) ≤ length ps * (proof_room + term_most * 700) + 2 * term_most * (length ps * fuel)
+    → lines_all (proofs_lines k ps) ≤ length ps * (proof_room + term_most * stated_most) + 2 * term_most * (length ps * fuel)
 unfolding AreAccepted proofs_lines
 proofs-short version fuel k [] a s = omega arith
 proofs-short version fuel k (p ∷ ps) a s =
@@ -106,9 +108,17 @@ proofs-short version fuel k (p ∷ ps) a s =
     omega (arith, h, r, e, t)
 
 -- ---- a log
+heading-short : (h : Heading) (rest : List LogLine) → lines_all (heading_lines h ++ rest) ≤ 2 * head_most + lines_all rest
+heading-short h rest = by (has_second h.version)
+  where
+    by : (b : Bool) → head_most + lines_all (fuel_lines b h.fuel ++ rest) ≤ 2 * head_most + lines_all rest
+    by true = omega arith
+    by false = omega arith
+
 pub log-short : AcceptedIsShort
-log-short version log a few small =
-    let m = proofs-short version (MOST_FUEL / length log) 1 log a small in
-    let d = mul-div-le MOST_FUEL (length log) in
+log-short h log fuel a few small =
+    let m = proofs-short h.version (h.fuel / length log) 1 log a small in
+    let d = mul-div-le h.fuel (length log) in
     let e = all-append (proofs_lines 1 log) (line.End ∷ []) in
-    omega (arith, m, d, e, few)
+    let t = heading-short h (line.Proves (length log) ∷ (proofs_lines 1 log ++ line.End ∷ [])) in
+    omega (arith, m, d, e, few, t, fuel)

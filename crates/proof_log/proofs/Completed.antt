@@ -10,12 +10,13 @@ use Rattle.proof_log.specs.declared.place.Part.{Part}
 use Rattle.proof_log.specs.declared.place.Part.TheVariants as part
 use Rattle.proof_log.specs.declared.place.Place.{Place}
 use Rattle.proof_log.specs.Grammar.{AreProofs, IsLog, IsFront, IsWhole}
-use Rattle.proof_log.specs.Lines.{proofs_lines, LogWritten}
+use Rattle.proof_log.specs.Headings.{Heading}
+use Rattle.proof_log.specs.Lines.{heading_lines, proofs_lines, LogWritten}
 use Rattle.proof_log.proofs.Fronts.{begun, Between, Cons, Hyps, Steps, Nes, Chained, Behind, proofs_append, logs_append, add_proves, add_vars, first_con, first_node}
-use Rattle.proof_log.proofs.Steps.{end_close, end_open, end_system, as_nes, as_chain, conclude, At_part, At}
+use Rattle.proof_log.proofs.Steps.{Headed, add_head, add_fuel, end_close, end_open, end_system, as_nes, as_chain, conclude, At_part, At}
 
 pub front_of_front : (ls : List LogLine) (l : LogLine) → IsFront (ls ++ l ∷ []) → IsFront ls
-front_of_front ls l f = record { version = f.version; log = f.log; fits = f.fits; more = l ∷ f.more; begins = f.begins ∙ append_assoc ls (l ∷ []) f.more }
+front_of_front ls l f = record { heading = f.heading; log = f.log; fits = f.fits; more = l ∷ f.more; begins = f.begins ∙ append_assoc ls (l ∷ []) f.more }
 
 filler : Proof
 filler = record {
@@ -47,7 +48,7 @@ fillers_fit : (n : ℕ) → IsLog (fillers n)
 fillers_fit n = record { proofs = fillers_size n; written = fillers_written n }
 
 whole_front : (ls : List LogLine) → IsWhole ls → IsFront ls
-whole_front ls w = record { version = w.version; log = w.log; fits = w.fits; more = []; begins = sym w.whole ∙ sym (append-nil ls) }
+whole_front ls w = record { heading = w.heading; log = w.log; fits = w.fits; more = []; begins = sym w.whole ∙ sym (append-nil ls) }
 
 between_front : (n left : ℕ) (ls : List LogLine) → Between n left ls → IsFront ls
 between_front n left ls a =
@@ -57,13 +58,14 @@ between_front n left ls a =
     let m = fillers_many left in
     let c = a.before.count in
     record {
-      version = a.before.version;
+      heading = a.before.heading;
       log = done ++ fillers left;
       fits = logs_append done (fillers left) a.before.fits (fillers_fit left);
       more = more;
-      begins = ap (λ k. line.Head a.before.version ∷ line.Proves k ∷ (proofs_lines 1 (done ++ fillers left) ++ line.End ∷ [])) (let e : length (done ++ fillers left) ≡ n = omega (arith, l, m, c) in e)
-          ∙ ap (λ t. line.Head a.before.version ∷ line.Proves n ∷ (t ++ line.End ∷ [])) (proofs_append 1 done (fillers left))
-          ∙ append_assoc (begun n left a.before) (proofs_lines (1 + length done) (fillers left)) (line.End ∷ [])
+      begins = ap (λ k. heading_lines a.before.heading ++ (line.Proves k ∷ (proofs_lines 1 (done ++ fillers left) ++ line.End ∷ []))) (let e : length (done ++ fillers left) ≡ n = omega (arith, l, m, c) in e)
+          ∙ ap (λ t. heading_lines a.before.heading ++ (line.Proves n ∷ (t ++ line.End ∷ []))) (proofs_append 1 done (fillers left))
+          ∙ ap (λ t. heading_lines a.before.heading ++ (line.Proves n ∷ t)) (append_assoc (proofs_lines 1 done) (proofs_lines (1 + length done) (fillers left)) (line.End ∷ []))
+          ∙ sym (append_assoc (heading_lines a.before.heading) (line.Proves n ∷ proofs_lines 1 done) more)
           ∙ ap (λ t. t ++ more) (sym a.lines);
     }
 
@@ -86,12 +88,16 @@ nes_front : (whole : Bool) (n left : ℕ) (ls : List LogLine) → Nes whole n le
 nes_front true n left ls a = behind_front n left ls (end_open n left ls a)
 nes_front false n left ls a = chain_front n left ls (as_chain n left ls a)
 
-head_front : (version : ℕ) (ls : List LogLine) → ls ≡ line.Head version ∷ [] → IsFront ls
-head_front version ls e = front_of_front ls (line.Proves 0) (between_front 0 0 _ (add_proves version 0 ls e))
+stated_front : (h : Heading) (ls : List LogLine) → ls ≡ heading_lines h → IsFront ls
+stated_front h ls e = front_of_front ls (line.Proves 0) (between_front 0 0 _ (add_proves h 0 ls e))
+
+head_front : (w : Bool) (ls : List LogLine) → Headed w ls → IsFront ls
+head_front true ls a = stated_front a.0 ls a.1
+head_front false ls a = let b = add_fuel 0 ls a in front_of_front ls (line.Fuel 0) (stated_front b.0 _ b.1)
 
 front_at : (p : Part) (n left h c : ℕ) (w : Bool) (ls : List LogLine) → At_part p n left h c w ls → IsFront ls
-front_at part.Start n left h c w ls a = front_of_front ls (line.Head 0) (head_front 0 _ (ap (λ t. t ++ line.Head 0 ∷ []) a))
-front_at part.Head n left h c w ls a = head_front a.0 ls a.1
+front_at part.Start n left h c w ls a = front_of_front ls (line.Head 0) (head_front true _ (add_head 0 ls a))
+front_at part.Head n left h c w ls a = head_front w ls a
 front_at part.Between n left h c w ls a = between_front n left ls a
 front_at part.Prove n left h c w ls a = front_of_front ls (line.Vars []) (hyps_front n left 0 _ (add_vars n left [] ls a.0))
 front_at part.Hyps n left h c w ls a = hyps_front n left h ls a.0

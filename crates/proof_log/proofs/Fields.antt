@@ -19,7 +19,7 @@ use Rattle.proof_log.specs.declared.line.LogLine.{LogLine}
 use Rattle.proof_log.specs.declared.line.LogLine.TheVariants as line
 use Rattle.proof_log.specs.declared.line.LineWord.{LineWord}
 use Rattle.proof_log.specs.declared.line.LineWord.TheVariants as word
-use Rattle.proof_log.specs.Text.{Field, Version, Proofs, Conclusion, Index, Multiplier, Letters, Why, letter_text, reason_text, minus_where, field_text, FitsField, fields_text, FitFields, row_of, word_text}
+use Rattle.proof_log.specs.Text.{Field, Version, Amount, Proofs, Conclusion, Index, Multiplier, Letters, Why, letter_text, reason_text, minus_where, field_text, FitsField, fields_text, FitFields, row_of, word_text}
 use Rattle.proof_log.specs.declared.field.FieldKind.{FieldKind}
 use Rattle.proof_log.specs.declared.field.FieldKind.TheVariants as kind
 use Rattle.proof_log.specs.Kinds.{kind_of, field_kinds, words}
@@ -32,6 +32,7 @@ found (w ∷ ws) text = if bytes_eq (word_text w) text then Some w else found ws
 
 pub found-again : (w : LineWord) → found words (word_text w) ≡ Some w
 found-again word.Head = refl
+found-again word.Fuel = refl
 found-again word.Proves = refl
 found-again word.Prove = refl
 found-again word.Vars = refl
@@ -60,6 +61,7 @@ same-word v w e = same_Some _ _ (sym (found-again v) ∙ ap (found words) e ∙ 
 
 pub word-high : (w : LineWord) → high (word_text w) ≡ true
 word-high word.Head = refl
+word-high word.Fuel = refl
 word-high word.Proves = refl
 word-high word.Prove = refl
 word-high word.Vars = refl
@@ -98,6 +100,7 @@ reason_of text =
 
 abbrev field_by : FieldKind → List ℕ → Field
 field_by kind.Version text = Version (value text)
+field_by kind.Amount text = Amount (value text)
 field_by kind.Proofs text = Proofs (value text)
 field_by kind.Conclusion text = Conclusion (value text)
 field_by kind.Index text = Index (value text)
@@ -134,6 +137,7 @@ reason-again reason.Fuel = refl
 
 pub field-again : (f : Field) → FitsField f → field_by (kind_of f) (field_text f) ≡ f
 field-again (Version v) p = let a = p.1 in ap Version (value-again v (omega (arith, a)))
+field-again (Amount n) p = let a = p.1 in ap Amount (value-again n (omega (arith, a)))
 field-again (Proofs n) p = ap Proofs (value-again n (omega (arith, p)))
 field-again (Conclusion k) p = let a = p.1 in ap Conclusion (value-again k (omega (arith, a)))
 field-again (Index i) p = let a = p.1 in ap Index (value-again i (omega (arith, a)))
@@ -146,6 +150,7 @@ same-field f g k p q e = sym (field-again f p) ∙ (λ i. field_by (k i) (e i)) 
 
 pub field-high : (f : Field) → FitsField f → high (field_text f) ≡ true
 field-high (Version v) p = let a = p.1 in decimal-high v (omega (arith, a))
+field-high (Amount n) p = let a = p.1 in decimal-high n (omega (arith, a))
 field-high (Proofs n) p = decimal-high n (omega (arith, p))
 field-high (Conclusion k) p = let a = p.1 in decimal-high k (omega (arith, a))
 field-high (Index i) p = let a = p.1 in decimal-high i (omega (arith, a))
@@ -186,6 +191,7 @@ same-fields (f ∷ fs) (g ∷ gs) x y k p q u v e =
 
 pub placed : (l : LogLine) → map kind_of (row_of l).fields ≡ field_kinds (row_of l).word
 placed (line.Head v) = refl
+placed (line.Fuel n) = refl
 placed (line.Proves n) = refl
 placed (line.Prove k) = refl
 placed (line.Vars ns) = refl

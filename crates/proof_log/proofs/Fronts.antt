@@ -15,17 +15,18 @@ use Rattle.proof_log.specs.declared.line.LogLine.{LogLine}
 use Rattle.proof_log.specs.declared.line.LogLine.TheVariants as line
 use Rattle.proof_log.specs.declared.log.Proof.{Proof}
 use Rattle.proof_log.specs.Grammar.{IsSized, AreProofs, IsLog}
-use Rattle.proof_log.specs.Lines.{step_line, piece_lines, problem_lines, proof_lines, proofs_lines, PieceWritten, PiecesWritten, LogWritten}
+use Rattle.proof_log.specs.Headings.{Heading}
+use Rattle.proof_log.specs.Lines.{heading_lines, step_line, piece_lines, problem_lines, proof_lines, proofs_lines, PieceWritten, PiecesWritten, LogWritten}
 
 -- ---- what lies before a place, where a log has n proofs and so many are left
 pub record Before (n left : ℕ) : Type 0 where
-  pub version : ℕ
+  pub heading : Heading
   pub done : List Proof
   pub fits : IsLog done
   pub count : length done + left ≡ n
 
 abbrev pub begun : (n left : ℕ) → Before n left → List LogLine
-begun n left b = line.Head b.version ∷ line.Proves n ∷ proofs_lines 1 b.done
+begun n left b = heading_lines b.heading ++ (line.Proves n ∷ proofs_lines 1 b.done)
 
 pub record Between (n left : ℕ) (ls : List LogLine) : Type 0 where
   pub before : Before n left
@@ -146,10 +147,10 @@ pub one_proof : (k : ℕ) (p : Proof) → proofs_lines k (p ∷ []) ≡ proof_li
 unfolding proofs_lines
 one_proof k p = append-nil (proof_lines k p)
 
-pub add_proves : (version n : ℕ) (ls : List LogLine) → ls ≡ line.Head version ∷ [] → Between n n (ls ++ line.Proves n ∷ [])
+pub add_proves : (h : Heading) (n : ℕ) (ls : List LogLine) → ls ≡ heading_lines h → Between n n (ls ++ line.Proves n ∷ [])
 unfolding proofs_lines
-add_proves version n ls e = record {
-  before = record { version = version; done = []; fits = no_proofs; count = omega arith };
+add_proves h n ls e = record {
+  before = record { heading = h; done = []; fits = no_proofs; count = omega arith };
   lines = ap (λ t. t ++ line.Proves n ∷ []) e;
 }
 
@@ -158,7 +159,7 @@ add_prove n left m k ls a e f =
     let g = a.before.count in
     let j : k ≡ suc (length a.before.done) = omega (arith, e, f, g) in
     record {
-      before = record { version = a.before.version; done = a.before.done; fits = a.before.fits; count = omega (arith, e, g) };
+      before = record { heading = a.before.heading; done = a.before.done; fits = a.before.fits; count = omega (arith, e, g) };
       lines = ap (λ t. t ++ line.Prove k ∷ []) a.lines ∙ ap (λ i. begun n left a.before ++ line.Prove i ∷ []) j;
     }
 

@@ -4,6 +4,8 @@ use Rattle.poly_model.specs.Names.{are_variables}
 use Rattle.poly_model.specs.declared.vars.VarName.{VarName}
 use Rattle.proof_log.specs.declared.line.LogLine.{LogLine}
 use Rattle.proof_log.specs.declared.place.Place.{Place}
+use Rattle.proof_log.specs.Settings.{unsettled, is_of, setting_after, setting_behind, AreOf}
+use Rattle.proof_log.specs.declared.setting.Setting.{Setting}
 use Rattle.proof_log.specs.Grammar.{names_behind, IsUnended, Begins, Refuses}
 use Rattle.proof_log.specs.Places.{goes, start, run}
 use Rattle.proof_log.specs.Text.{line_text, IsLine, names_after, text_of, AreLines}
@@ -29,6 +31,16 @@ unfolding names_behind AreLines
 lines_snoc names [] l a b = (b, tt)
 lines_snoc names (m ∷ ls) l a b = (a.0, lines_snoc (names_after names m) ls l a.1 b)
 
+pub setting_snoc : (k : Setting) (ls : List LogLine) (l : LogLine) → setting_behind k (ls ++ l ∷ []) ≡ setting_after (setting_behind k ls) l
+unfolding setting_behind
+setting_snoc k [] l = refl
+setting_snoc k (m ∷ ls) l = setting_snoc (setting_after k m) ls l
+
+pub own_snoc : (k : Setting) (ls : List LogLine) (l : LogLine) → AreOf k ls → is_of (setting_behind k ls) l ≡ true → AreOf k (ls ++ l ∷ [])
+unfolding setting_behind AreOf
+own_snoc k [] l a b = (b, tt)
+own_snoc k (m ∷ ls) l a b = (a.0, own_snoc (setting_after k m) ls l a.1 b)
+
 -- ---- steps of a reader, over plain values
 pub next_text : (front : List LogLine) (bytes held : List ℕ) (names : List VarName) (l : LogLine) → bytes ≡ text_of [] front ++ held → names ≡ names_behind [] front → held ≡ line_text names l
     → bytes ++ 10 ∷ [] ≡ text_of [] (front ++ l ∷ []) ++ []
@@ -40,24 +52,26 @@ next_text front bytes held names l e n h =
 pub behind_lines : (front : List LogLine) (bytes held text : List ℕ) → bytes ≡ text_of [] front ++ held → held ≡ [] → bytes ++ text ≡ text_of [] front ++ text
 behind_lines front bytes held text e none = ap (λ t. t ++ text) (e ∙ ap (λ h. text_of [] front ++ h) none ∙ append-nil (text_of [] front))
 
-pub begins_with : (front : List LogLine) (bytes held more : List ℕ) (s : Place) → bytes ≡ text_of [] front ++ held → AreLines [] front → run start front ≡ Some s → Begins front (held ++ more) (bytes ++ more)
-begins_with front bytes held more s e lines r = record {
+pub begins_with : (front : List LogLine) (bytes held more : List ℕ) (s : Place) → bytes ≡ text_of [] front ++ held → AreLines [] front → AreOf unsettled front → run start front ≡ Some s → Begins front (held ++ more) (bytes ++ more)
+begins_with front bytes held more s e lines own r = record {
   lines = lines;
+  own = own;
   grammar = front_is s front r;
   text = ap (λ t. t ++ more) e ∙ append_assoc (text_of [] front) held more;
 }
 
 pub begins_more : (front : List LogLine) (rest bytes more : List ℕ) → Begins front rest bytes → Begins front (rest ++ more) (bytes ++ more)
-begins_more front rest bytes more b = record { lines = b.lines; grammar = b.grammar; text = ap (λ t. t ++ more) b.text ∙ append_assoc (text_of [] front) rest more }
+begins_more front rest bytes more b = record { lines = b.lines; own = b.own; grammar = b.grammar; text = ap (λ t. t ++ more) b.text ∙ append_assoc (text_of [] front) rest more }
 
-pub refuses_line : (front : List LogLine) (bytes held : List ℕ) (names : List VarName) (s : Place) → bytes ≡ text_of [] front ++ held → names ≡ names_behind [] front
-    → IsUnended held → AreLines [] front → run start front ≡ Some s → ((l : LogLine) → IsLine names l → held ≡ line_text names l → goes s l ≡ None) → Refuses front (bytes ++ 10 ∷ [])
-refuses_line front bytes held names s e n u lines r none = record {
+pub refuses_line : (front : List LogLine) (bytes held : List ℕ) (names : List VarName) (k : Setting) (s : Place) → bytes ≡ text_of [] front ++ held → names ≡ names_behind [] front
+    → k ≡ setting_behind unsettled front → IsUnended held → AreLines [] front → AreOf unsettled front → run start front ≡ Some s
+    → ((l : LogLine) → IsLine names l → is_of k l ≡ true → held ≡ line_text names l → goes s l ≡ None) → Refuses front (bytes ++ 10 ∷ [])
+refuses_line front bytes held names k s e n v u lines own r none = record {
   refused = held;
   more = [];
-  begins = begins_with front bytes held (10 ∷ []) s e lines r;
+  begins = begins_with front bytes held (10 ∷ []) s e lines own r;
   one_line = u;
-  no_line = λ l fits f h. no_front s front l r (none l (subst (λ v. IsLine v l) (sym n) fits) (h ∙ ap (λ v. line_text v l) (sym n))) f;
+  no_line = λ l fits o f h. no_front s front l r (none l (subst (λ v. IsLine v l) (sym n) fits) (ap (λ t. is_of t l) v ∙ o) (h ∙ ap (λ v. line_text v l) (sym n))) f;
 }
 
 pub refuses_more : (front : List LogLine) (bytes more : List ℕ) → Refuses front bytes → Refuses front (bytes ++ more)

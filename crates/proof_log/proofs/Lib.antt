@@ -20,4 +20,5 @@ mod Completed
 mod Runs
 pub mod Logs
 pub mod Held
+pub mod Settled
 mod Pieced

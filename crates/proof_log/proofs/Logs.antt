@@ -1,5 +1,5 @@
 -- The machine takes the lines of each log, and each front of them.
-use Rattle.std.proofs.Common.{◌≡◌, ℕ, ◌+◌, ◌-◌, ◌<◌, ◌≤◌, suc, List, [], ◌∷◌, ◌++◌, map, length, Bool, true, false, ◌⊎◌, inl, inr, nat_lt, nat_eq, refl, sym, ◌∙◌, ap, arith, Option, Some, None, append_assoc, append-nil, subst}
+use Rattle.std.proofs.Common.{◌≡◌, ℕ, ◌+◌, ◌-◌, ◌<◌, ◌≤◌, suc, List, [], ◌∷◌, ◌++◌, map, length, Bool, true, false, not, ◌⊎◌, inl, inr, nat_lt, nat_eq, refl, sym, ◌∙◌, ap, arith, Option, Some, None, append_assoc, append-nil, subst}
 use Rattle.std.specs.List.{flat_map}
 use Rattle.std.proofs.lemmas.Bool.Decides.{nat_tests}
 use Rattle.poly_model.specs.Polynomial.{Polynomial}
@@ -12,6 +12,8 @@ use Rattle.proof_log.specs.declared.place.Part.{Part}
 use Rattle.proof_log.specs.declared.place.Part.TheVariants as part
 use Rattle.proof_log.specs.declared.place.Place.{Place}
 use Rattle.proof_log.specs.Grammar.{IsSized, AreProofs, IsFront, IsWhole}
+use Rattle.proof_steps.specs.Rules.{has_second}
+use Rattle.proof_log.specs.Headings.{Heading, fuel_lines}
 use Rattle.proof_log.specs.Lines.{piece_lines, problem_lines, proof_lines, proofs_lines, log_lines}
 use Rattle.proof_log.specs.Places.{goes, start, run}
 use Rattle.proof_log.proofs.Completed.{is_front}
@@ -104,16 +106,35 @@ run_proofs n h c k w (p ∷ ps) some e fits =
       is = more.is;
     }
 
-pub run_log : (version : ℕ) (log : List Proof) → AreProofs log → Arrives start (log_lines version log) part.Done
+pub run_log : (h : Heading) (log : List Proof) → AreProofs log → Arrives start (log_lines h log) part.Done
 unfolding goes
-run_log version log fits =
-    let n = length log in
-    let more = run_proofs n 0 0 1 false log (omega arith) (omega arith) fits in
-    record {
-      to = more.to;
-      runs = one start (at part.Head 0 0 0 0 false) (line.Head version) (line.Proves n ∷ (proofs_lines 1 log ++ line.End ∷ [])) refl
-          ∙ one (at part.Head 0 0 0 0 false) (at part.Between n n 0 0 false) (line.Proves n) (proofs_lines 1 log ++ line.End ∷ []) refl ∙ more.runs;
-      is = more.is;
+run_log h log fits = by (has_second h.version) refl
+  where
+    behind : Arrives (at part.Head 0 0 0 0 true) (line.Proves (length log) ∷ (proofs_lines 1 log ++ line.End ∷ [])) part.Done
+    behind =
+        let more = run_proofs (length log) 0 0 1 true log (omega arith) (omega arith) fits in
+        record {
+          to = more.to;
+          runs = one (at part.Head 0 0 0 0 true) (at part.Between (length log) (length log) 0 0 true) (line.Proves (length log)) (proofs_lines 1 log ++ line.End ∷ []) refl ∙ more.runs;
+          is = more.is;
+        }
+
+    headed : (b : Bool) → has_second h.version ≡ b → goes start (line.Head h.version) ≡ Some (at part.Head 0 0 0 0 (not b))
+    headed b e = ap (λ (c : Bool). Some (at part.Head 0 0 0 0 (not c))) e
+
+    by : (b : Bool) → has_second h.version ≡ b → Arrives start (log_lines h log) part.Done
+    by true e = record {
+      to = behind.to;
+      runs = one start (at part.Head 0 0 0 0 false) (line.Head h.version) (fuel_lines (has_second h.version) h.fuel ++ (line.Proves (length log) ∷ (proofs_lines 1 log ++ line.End ∷ []))) (headed true e)
+          ∙ ap (λ c. run (at part.Head 0 0 0 0 false) (fuel_lines c h.fuel ++ (line.Proves (length log) ∷ (proofs_lines 1 log ++ line.End ∷ [])))) e
+          ∙ one (at part.Head 0 0 0 0 false) (at part.Head 0 0 0 0 true) (line.Fuel h.fuel) (line.Proves (length log) ∷ (proofs_lines 1 log ++ line.End ∷ [])) refl ∙ behind.runs;
+      is = behind.is;
+    }
+    by false e = record {
+      to = behind.to;
+      runs = one start (at part.Head 0 0 0 0 true) (line.Head h.version) (fuel_lines (has_second h.version) h.fuel ++ (line.Proves (length log) ∷ (proofs_lines 1 log ++ line.End ∷ []))) (headed false e)
+          ∙ ap (λ c. run (at part.Head 0 0 0 0 true) (fuel_lines c h.fuel ++ (line.Proves (length log) ∷ (proofs_lines 1 log ++ line.End ∷ [])))) e ∙ behind.runs;
+      is = behind.is;
     }
 
 -- ---- fronts
@@ -126,14 +147,14 @@ run_append s t (l ∷ a) b e = elim (goes s l) as (λ o. run_from o a ≡ Some t
 pub no_front : (s : Place) (ls : List LogLine) (l : LogLine) → run start ls ≡ Some s → goes s l ≡ None → IsFront (ls ++ l ∷ []) → ⊥
 unfolding run
 no_front s ls l r none f =
-    let through = run_log f.version f.log f.fits.proofs in
+    let through = run_log f.heading f.log f.fits.proofs in
     let e : run s (l ∷ f.more) ≡ Some through.to = sym (run_append start s ls (l ∷ f.more) r) ∙ ap (run start) (sym (append_assoc ls (l ∷ []) f.more)) ∙ ap (run start) (sym f.begins) ∙ through.runs in
     let g : ◌≡◌ {A = Option Place} None (Some through.to) = ap (λ o. run_from o f.more) (sym none) ∙ e in cc
 
 -- a log that is whole ends at the last place, and one that ends there is whole
 pub whole_done : (s : Place) (ls : List LogLine) → run start ls ≡ Some s → IsWhole ls → s.part ≡ part.Done
 whole_done s ls r w =
-    let through = run_log w.version w.log w.fits.proofs in
+    let through = run_log w.heading w.log w.fits.proofs in
     let e : ◌≡◌ {A = Option Place} (Some s) (Some through.to) = sym r ∙ ap (run start) w.whole ∙ through.runs in
     let f : s ≡ through.to = cc in ap (λ (p : Place). p.part) f ∙ through.is
 

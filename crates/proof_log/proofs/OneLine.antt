@@ -20,7 +20,7 @@ use Rattle.proof_log.specs.declared.line.LogLine.{LogLine}
 use Rattle.proof_log.specs.declared.line.LogLine.TheVariants as line
 use Rattle.proof_log.specs.declared.line.LineWord.{LineWord}
 use Rattle.proof_log.specs.declared.line.LineWord.TheVariants as word
-use Rattle.proof_log.specs.Text.{Field, Version, Proofs, Conclusion, Index, Multiplier, Letters, Why, fields_text, FitFields, Tail, Nothing, Poly, Names, Tried, Told, FitsPoly, FitPolys, attempt_word, attempt_fields, more_text, polys_text, verdict_text, names_text, tail_text, FitsVerdict, FitsTail, Row, row_of, word_text, line_text, IsLine}
+use Rattle.proof_log.specs.Text.{Field, Version, Amount, Proofs, Conclusion, Index, Multiplier, Letters, Why, fields_text, FitFields, Tail, Nothing, Poly, Names, Tried, Told, FitsPoly, FitPolys, attempt_word, attempt_fields, more_text, polys_text, verdict_text, names_text, tail_text, FitsVerdict, FitsTail, Row, row_of, word_text, line_text, IsLine}
 use Rattle.proof_log.proofs.Bytes.{EndsAt, cut, high, high-blank, decimal-high, poly-semicolon}
 use Rattle.proof_log.specs.Kinds.{kind_of, field_kinds, tail_kind_of, tail_kind}
 use Rattle.proof_log.proofs.Fields.{fields-end, placed, same-fields, same-word, value, value-again, word-high}
@@ -32,6 +32,7 @@ apart a b e differ = let h : get_or a 0 0 ≡ get_or b 0 0 = ap (λ l. get_or l 
 -- ---- the rest of a line
 pub tailed : (l : LogLine) → tail_kind_of (row_of l).tail ≡ tail_kind (row_of l).word
 tailed (line.Head v) = refl
+tailed (line.Fuel n) = refl
 tailed (line.Proves n) = refl
 tailed (line.Prove k) = refl
 tailed (line.Vars ns) = refl
@@ -230,6 +231,7 @@ nothing_held = record { number = 0; multiplier = pos 0; letters = []; why = reas
 
 abbrev held_by : Field → Held
 held_by (Version v) = record nothing_held { number = v }
+held_by (Amount n) = record nothing_held { number = n }
 held_by (Proofs n) = record nothing_held { number = n }
 held_by (Conclusion k) = record nothing_held { number = k }
 held_by (Index i) = record nothing_held { number = i }
@@ -258,6 +260,7 @@ rest_of (Told v) = record no_rest { told = v }
 
 abbrev line_by : LineWord → List Field → Tail → LogLine
 line_by word.Head fs t = line.Head (held_at 0 fs).number
+line_by word.Fuel fs t = line.Fuel (held_at 0 fs).number
 line_by word.Proves fs t = line.Proves (held_at 0 fs).number
 line_by word.Prove fs t = line.Prove (held_at 0 fs).number
 line_by word.Vars fs t = line.Vars (rest_of t).names
@@ -286,6 +289,7 @@ line_again r = line_by r.word r.fields r.tail
 
 again : (l : LogLine) → line_again (row_of l) ≡ l
 again (line.Head v) = refl
+again (line.Fuel n) = refl
 again (line.Proves n) = refl
 again (line.Prove k) = refl
 again (line.Vars ns) = refl

@@ -1,5 +1,8 @@
 -- Lines are those of at most one log.
-use Rattle.std.proofs.Common.{◌≡◌, ℕ, suc, List, [], ◌∷◌, ◌++◌, length, map, refl, sym, ◌∙◌, ap, subst, append_assoc}
+use Rattle.std.proofs.Common.{◌≡◌, ℕ, suc, List, [], ◌∷◌, ◌++◌, length, map, Bool, true, false, refl, sym, ◌∙◌, ap, subst, append_assoc}
+use Rattle.proof_steps.specs.Rules.{has_second}
+use Rattle.proof_log.specs.declared.limits.TheConstants.{FIRST_FUEL}
+use Rattle.proof_log.specs.Headings.{Heading, IsHeading, fuel_lines}
 use Rattle.std.specs.List.{flat_map}
 use Rattle.poly_model.specs.Polynomial.{Polynomial}
 use Rattle.proof_steps.specs.declared.piece.Piece.{Piece}
@@ -265,8 +268,22 @@ proofs-same k (p ∷ ps) (q ∷ qs) v w e =
     let r = proofs-same (suc k) ps qs v.1 w.1 h.1 in
     λ i. h.0 i ∷ r i
 
-pub one_log : (version other : ℕ) (ps qs : List Proof) → LogWritten ps → LogWritten qs → log_lines version ps ≡ log_lines other qs → (version ≡ other) × (ps ≡ qs)
-one_log version other ps qs v w e =
-    let f = parts (line.Head version) (line.Head other) (line.Proves (length ps) ∷ (proofs_lines 1 ps ++ line.End ∷ [])) (line.Proves (length qs) ∷ (proofs_lines 1 qs ++ line.End ∷ [])) e in
-    let g = parts (line.Proves (length ps)) (line.Proves (length qs)) (proofs_lines 1 ps ++ line.End ∷ []) (proofs_lines 1 qs ++ line.End ∷ []) f.1 in
-    ((let l = f.0 in cc), proofs-same 1 ps qs v w g.1)
+-- the heading, by whether the fuel is stated
+fuel-same : (b : Bool) (f g : ℕ) → (b ≡ true → f ≡ g) → (b ≡ false → f ≡ FIRST_FUEL) → (b ≡ false → g ≡ FIRST_FUEL) → f ≡ g
+fuel-same true f g s p q = s refl
+fuel-same false f g s p q = p refl ∙ sym (q refl)
+
+behind-heading : (b c : Bool) (f g n m : ℕ) (a d : List LogLine) → b ≡ c → fuel_lines b f ++ (line.Proves n ∷ a) ≡ fuel_lines c g ++ (line.Proves m ∷ d) → (b ≡ true → f ≡ g) × (a ≡ d)
+behind-heading true true f g n m a d s e = ((λ t. cc), cc)
+behind-heading false false f g n m a d s e = ((λ t. cc), cc)
+behind-heading true false f g n m a d s e = cc
+behind-heading false true f g n m a d s e = cc
+
+pub one_log : (h other : Heading) (ps qs : List Proof) → IsHeading h → IsHeading other → LogWritten ps → LogWritten qs → log_lines h ps ≡ log_lines other qs → (h ≡ other) × (ps ≡ qs)
+one_log h other ps qs a b v w e =
+    let rest : Heading → List Proof → List LogLine = λ k xs. fuel_lines (has_second k.version) k.fuel ++ (line.Proves (length xs) ∷ (proofs_lines 1 xs ++ line.End ∷ [])) in
+    let f = parts (line.Head h.version) (line.Head other.version) (rest h ps) (rest other qs) e in
+    let version : h.version ≡ other.version = (let l = f.0 in cc) in
+    let g = behind-heading (has_second h.version) (has_second other.version) h.fuel other.fuel (length ps) (length qs) (proofs_lines 1 ps ++ line.End ∷ []) (proofs_lines 1 qs ++ line.End ∷ []) (ap has_second version) f.1 in
+    let fuel = fuel-same (has_second h.version) h.fuel other.fuel g.0 a (λ q. b (ap has_second (sym version) ∙ q)) in
+    ((λ i. record { version = version i; fuel = fuel i }), proofs-same 1 ps qs v w g.1)

@@ -14,6 +14,7 @@ use Rattle.verdicts.specs.declared.verdict.Verdict.TheVariants as verdict
 use Rattle.proof_log.specs.declared.line.LogLine.{LogLine}
 use Rattle.proof_log.specs.declared.line.LogLine.TheVariants as line
 use Rattle.proof_log.specs.declared.log.Proof.{Proof}
+use Rattle.proof_log.specs.Headings.{Heading, IsHeading}
 use Rattle.proof_log.specs.Lines.{log_lines, LogWritten}
 use Rattle.proof_log.specs.Text.{Index, FitsPoly, Field, Conclusion, Letters, Why, field_text, fields_text, FitFields, Tail, Nothing, Poly, Names, Tried, Told, FitPolys, attempt_fields, more_text, polys_text, verdict_text, names_text, tail_text, FitsVerdict, FitsTail, row_of, word_text, line_text, IsLine, names_after, text_of, AreLines}
 use Rattle.proof_log.proofs.Bytes.{high, Avoids, avoids-append, cut, high-line, poly-line}
@@ -82,6 +83,7 @@ module _ (names : List VarName) (valid : are_variables names ≡ true) where
 -- ---- texts
 pub names-kept : (names : List VarName) (l : LogLine) → are_variables names ≡ true → IsLine names l → are_variables (names_after names l) ≡ true
 names-kept names (line.Head v) valid fits = valid
+names-kept names (line.Fuel n) valid fits = valid
 names-kept names (line.Proves n) valid fits = valid
 names-kept names (line.Prove k) valid fits = valid
 names-kept names (line.Vars ns) valid fits = fits.1
@@ -122,6 +124,6 @@ one_list names (l ∷ ls) (m ∷ ms) n f g e =
     (ap (drop 1) c.1 ∙ ap (λ k. text_of (names_after names k) ms) (sym same)) i
 
 -- a text is that of at most one log
-pub one_log_text : (version other : ℕ) (ps qs : List Proof) → LogWritten ps → LogWritten qs → AreLines [] (log_lines version ps) → AreLines [] (log_lines other qs)
-    → text_of [] (log_lines version ps) ≡ text_of [] (log_lines other qs) → (version ≡ other) × (ps ≡ qs)
-one_log_text version other ps qs v w f g e = one_log version other ps qs v w (one_list [] (log_lines version ps) (log_lines other qs) refl f g e)
+pub one_log_text : (h other : Heading) (ps qs : List Proof) → IsHeading h → IsHeading other → LogWritten ps → LogWritten qs → AreLines [] (log_lines h ps) → AreLines [] (log_lines other qs)
+    → text_of [] (log_lines h ps) ≡ text_of [] (log_lines other qs) → (h ≡ other) × (ps ≡ qs)
+one_log_text h other ps qs a b v w f g e = one_log h other ps qs a b v w (one_list [] (log_lines h ps) (log_lines other qs) refl f g e)

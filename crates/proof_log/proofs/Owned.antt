@@ -1,5 +1,5 @@
 -- The polynomials of lines that can be written have only the variables of their problem.
-use Rattle.std.proofs.Common.{◌≡◌, ℕ, suc, List, [], ◌∷◌, ◌++◌, map, length, refl, sym, subst, append_assoc}
+use Rattle.std.proofs.Common.{◌≡◌, ℕ, suc, List, [], ◌∷◌, ◌++◌, map, length, refl, sym, subst, append_assoc, Bool, true, false}
 use Rattle.std.specs.Prelude.{All}
 use Rattle.std.specs.List.{flat_map, AllByRecursion}
 use Rattle.std.proofs.lemmas.List.Elements.{All-from_recursion}
@@ -15,6 +15,8 @@ use Rattle.proof_steps.specs.declared.step.Step.TheVariants as step
 use Rattle.verdicts.specs.declared.verdict.Verdict.{Verdict}
 use Rattle.verdicts.specs.declared.verdict.Verdict.TheVariants as verdict
 use Rattle.proof_log.specs.Grammar.{names_behind}
+use Rattle.proof_steps.specs.Rules.{has_second}
+use Rattle.proof_log.specs.Headings.{Heading, fuel_lines}
 use Rattle.proof_log.specs.Lines.{step_line, status_line, list_lines, outcome_lines, piece_lines, proof_lines, proofs_lines, log_lines, OutcomeWritten, PieceWritten, PiecesWritten, LogWritten}
 use Rattle.proof_log.specs.Own.{IsOver, StepIsOver, ChainIsOver, OutcomeIsOver, PieceIsOver, VerdictIsOver, IsOwn}
 use Rattle.proof_log.specs.Text.{FitPolys, FitsVerdict, IsLine, names_after, AreLines}
@@ -187,6 +189,10 @@ proofs-own names k (p ∷ ps) more w h =
     (proof-own p w.0 r.0, proofs-own (names_behind p.problem.vars (rest_lines p)) (suc k) ps more w.1 r.1)
 
 -- Where the lines of a log can be written, each polynomial of them has only the variables of its problem.
-pub log-own : (version : ℕ) (ps : List Proof) → LogWritten ps → AreLines [] (log_lines version ps) → All IsOwn ps
+pub log-own : (h : Heading) (ps : List Proof) → LogWritten ps → AreLines [] (log_lines h ps) → All IsOwn ps
 unfolding AreLines
-log-own version ps w h = All-from_recursion IsOwn ps (proofs-own [] 1 ps (line.End ∷ []) w h.1.1)
+log-own h ps w lines = All-from_recursion IsOwn ps (proofs-own [] 1 ps (line.End ∷ []) w (behind (has_second h.version) lines.1))
+  where
+    behind : (b : Bool) → AreLines [] (fuel_lines b h.fuel ++ (line.Proves (length ps) ∷ (proofs_lines 1 ps ++ line.End ∷ []))) → AreLines [] (proofs_lines 1 ps ++ line.End ∷ [])
+    behind true l = l.1.1
+    behind false l = l.1

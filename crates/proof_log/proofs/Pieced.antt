@@ -61,7 +61,7 @@ going : (old : LogReader) (front : List LogLine) (bytes : List ℕ) → old.faul
 going old front bytes e f = subst (λ o. FedWith o front old bytes) e f
 
 pub starved : (front : List LogLine) (r : LogReader) (bytes more : List ℕ) → Fed front r bytes → Starved front (bytes ++ more)
-starved front r bytes more f = (r.held.items ++ more, begins_with front bytes r.held.items more r.place f.text f.lines f.place)
+starved front r bytes more f = (r.held.items ++ more, begins_with front bytes r.held.items more r.place f.text f.lines f.own f.place)
 
 all_fed : (u : Unit {0}) (old r : LogReader) (old_lines lines : List LogLine) (piece rest : List ℕ) → old.fault ≡ None → rest ≡ [] → Sofar old old_lines piece rest r lines → Goal (Ok u) old old_lines piece r lines
 all_fed u old r old_lines lines piece rest e none s bytes front f =
@@ -120,6 +120,7 @@ ends_whole u r front bytes e none d f =
     let empty = none_of r.held.items (counted r ∙ eqb-true (vec_len r.held) 0 none) in
     record {
       lines = g.lines;
+      own = g.own;
       whole = whole_is r.place front g.place (done_is r.place.part d);
       text = g.text ∙ ap (λ t. text_of [] front ++ t) empty ∙ append-nil (text_of [] front);
     }
@@ -127,7 +128,7 @@ ends_whole u r front bytes e none d f =
 early : (r : LogReader) (front : List LogLine) (bytes : List ℕ) → Fed front r bytes → (r.held.items ≡ [] → is_done r.place.part ≡ true → ⊥) → EndsEarly front bytes
 early r front bytes g not_yet = record {
   rest = r.held.items;
-  begins = record { lines = g.lines; grammar = front_is r.place front g.place; text = g.text };
+  begins = record { lines = g.lines; own = g.own; grammar = front_is r.place front g.place; text = g.text };
   unended = g.unended;
   early = λ none w. not_yet none (ap is_done (whole_done r.place front g.place w));
 }

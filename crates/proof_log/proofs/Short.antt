@@ -18,7 +18,7 @@ use Rattle.verdicts.specs.declared.verdict.Verdict.{Verdict}
 use Rattle.verdicts.specs.declared.verdict.Verdict.TheVariants as verdict
 use Rattle.proof_log.specs.declared.line.LogLine.{LogLine}
 use Rattle.proof_log.specs.declared.line.LogLine.TheVariants as line
-use Rattle.proof_log.specs.Text.{Field, Version, Proofs, Conclusion, Index, Multiplier, Letters, Why, Tried, letter_text, minus_where, field_text, FitsField, fields_text, FitFields, FitPolys, attempt_fields, more_text, polys_text, verdict_text, tail_text, FitsVerdict, row_of, word_text, line_text, IsLine, names_after, text_of, AreLines}
+use Rattle.proof_log.specs.Text.{Field, Version, Amount, Proofs, Conclusion, Index, Multiplier, Letters, Why, Tried, letter_text, minus_where, field_text, FitsField, fields_text, FitFields, FitPolys, attempt_fields, more_text, polys_text, verdict_text, tail_text, FitsVerdict, row_of, word_text, line_text, IsLine, names_after, text_of, AreLines}
 use Rattle.proof_log.specs.Lengths.{term_most, verdict_most, line_all, lines_all}
 use Rattle.proof_log.proofs.OneText.{names-kept}
 use Rattle.proof_log.proofs.ShortTerms.{FewDigits, few-digits, small-decimal, poly-short}
@@ -40,6 +40,7 @@ why-short reason.Fuel = omega arith
 
 abbrev field_most : Field → ℕ
 field_most (Version v) = 3
+field_most (Amount n) = 6
 field_most (Proofs n) = 3
 field_most (Conclusion k) = 3
 field_most (Index i) = 3
@@ -53,6 +54,7 @@ fields_most (f ∷ fs) = 1 + field_most f + fields_most fs
 
 field-short : (f : Field) → FitsField f → length (field_text f) ≤ field_most f
 field-short (Version v) fits = let a = fits.1 in small-decimal 3 v (omega arith) (omega (arith, a)) (omega (arith, a))
+field-short (Amount n) fits = let a = fits.1 in small-decimal 6 n (omega arith) (omega (arith, a)) (omega (arith, a))
 field-short (Proofs n) fits = small-decimal 3 n (omega arith) (omega (arith, fits)) (omega (arith, fits))
 field-short (Conclusion k) fits = let a = fits.1 in small-decimal 3 k (omega arith) (omega (arith, a)) (omega (arith, a))
 field-short (Index i) fits = let a = fits.1 in small-decimal 3 i (omega arith) (omega (arith, a)) (omega (arith, a))
@@ -117,6 +119,10 @@ pub line-short : (names : List VarName) (l : LogLine) → are_variables names �
 line-short names (line.Head v) valid fits =
     let e = line-length names (line.Head v) in
     let a = fields-short (row_of (line.Head v)).fields fits.0 in
+    omega (arith, e, a)
+line-short names (line.Fuel n) valid fits =
+    let e = line-length names (line.Fuel n) in
+    let a = fields-short (row_of (line.Fuel n)).fields fits.0 in
     omega (arith, e, a)
 line-short names (line.Proves n) valid fits =
     let e = line-length names (line.Proves n) in

@@ -1,5 +1,5 @@
 -- Each line that the machine takes leads from what lies before its place to what lies behind it.
-use Rattle.std.proofs.Common.{◌≡◌, ℕ, ◌+◌, ◌-◌, ◌<◌, suc, List, [], ◌∷◌, ◌++◌, map, length, Bool, true, false, ◌&&◌, ◌||◌, ◌==◌, nat_lt, nat_eq, cond, refl, sym, ◌∙◌, ap, arith, Some, None, append_assoc, append-nil, subst, length-append}
+use Rattle.std.proofs.Common.{◌≡◌, ℕ, ◌+◌, ◌-◌, ◌<◌, suc, List, [], ◌∷◌, ◌++◌, map, length, Bool, true, false, ◌&&◌, ◌||◌, not, ◌==◌, nat_lt, nat_eq, cond, refl, sym, ◌∙◌, ap, arith, Some, None, append_assoc, append-nil, subst, length-append}
 use Rattle.std.specs.List.{list_any}
 use Rattle.std.proofs.lemmas.Bool.{eqb-true, and_parts}
 use Rattle.std.proofs.lemmas.Bool.Decides.{nat_tests}
@@ -22,7 +22,9 @@ use Rattle.proof_log.specs.declared.place.Part.{Part}
 use Rattle.proof_log.specs.declared.place.Part.TheVariants as part
 use Rattle.proof_log.specs.declared.place.Place.{Place}
 use Rattle.proof_log.specs.Grammar.{IsWhole}
-use Rattle.proof_log.specs.Lines.{step_line, status_line, proofs_lines, left_from, StatusWritten}
+use Rattle.proof_steps.specs.Rules.{has_second}
+use Rattle.proof_log.specs.Headings.{Heading, fuel_lines}
+use Rattle.proof_log.specs.Lines.{heading_lines, step_line, status_line, proofs_lines, left_from, StatusWritten}
 use Rattle.proof_log.specs.Places.{goes, stands, number, parts_before, counted, at_part, part_behind}
 use Rattle.proof_log.specs.Text.{row_of}
 use Rattle.proof_log.proofs.Fronts.{begun, Between, Named, Hyps, Cons, steps_tail, Steps, Opens, Eqs, Nes, Chained, Behind, proofs_append, logs_append, one_log, one_proof, add_proves, add_prove, add_vars, add_hyp, first_con, next_con, first_node, added, add, tail_is, whole_piece}
@@ -131,23 +133,40 @@ conclude n left v ls b =
     let c = a.before.count in
     record {
       before = record {
-        version = a.before.version;
+        heading = a.before.heading;
         done = a.before.done ++ q ∷ [];
         fits = logs_append a.before.done (q ∷ []) a.before.fits (one_log q a.sized b.some a.written);
         count = let l = length-append a.before.done (q ∷ []) in omega (arith, c, l);
       };
       lines = added n left ls [] _ (line.Verdict v) a refl
           ∙ ap (λ t. begun n (suc left) a.before ++ t) (sym (one_proof (suc (length a.before.done)) q))
-          ∙ ap (λ t. line.Head a.before.version ∷ line.Proves n ∷ t) (sym (proofs_append 1 a.before.done (q ∷ []) ∙ ap (λ k. proofs_lines 1 a.before.done ++ proofs_lines k (q ∷ [])) (let e : 1 + length a.before.done ≡ suc (length a.before.done) = omega arith in e)));
+          ∙ append_assoc (heading_lines a.before.heading) (line.Proves n ∷ proofs_lines 1 a.before.done) (proofs_lines (suc (length a.before.done)) (q ∷ []))
+          ∙ ap (λ t. heading_lines a.before.heading ++ (line.Proves n ∷ t)) (sym (proofs_append 1 a.before.done (q ∷ []) ∙ ap (λ k. proofs_lines 1 a.before.done ++ proofs_lines k (q ∷ [])) (let e : 1 + length a.before.done ≡ suc (length a.before.done) = omega arith in e)));
     }
 
 pub finish : (n left : ℕ) (ls : List LogLine) → left ≡ 0 → Between n left ls → IsWhole (ls ++ line.End ∷ [])
 finish n left ls e a = let c = a.before.count in record {
-  version = a.before.version;
+  heading = a.before.heading;
   log = a.before.done;
   fits = a.before.fits;
-  whole = ap (λ t. t ++ line.End ∷ []) a.lines ∙ ap (λ m. line.Head a.before.version ∷ line.Proves m ∷ (proofs_lines 1 a.before.done ++ line.End ∷ [])) (let h : n ≡ length a.before.done = omega (arith, c, e) in h);
+  whole = ap (λ t. t ++ line.End ∷ []) a.lines ∙ append_assoc (heading_lines a.before.heading) (line.Proves n ∷ proofs_lines 1 a.before.done) (line.End ∷ [])
+      ∙ ap (λ m. heading_lines a.before.heading ++ (line.Proves m ∷ (proofs_lines 1 a.before.done ++ line.End ∷ []))) (let h : n ≡ length a.before.done = omega (arith, c, e) in h);
 }
+
+-- ---- the head: with the fuel, or before it
+abbrev pub Headed : Bool → List LogLine → Type 0
+Headed true ls = (h : Heading) × (ls ≡ heading_lines h)
+Headed false ls = (version : ℕ) × (has_second version ≡ true) × (ls ≡ line.Head version ∷ [])
+
+pub add_head : (version : ℕ) (ls : List LogLine) → ls ≡ [] → Headed (not (has_second version)) (ls ++ line.Head version ∷ [])
+add_head version ls e = by (has_second version) refl
+  where
+    by : (b : Bool) → has_second version ≡ b → Headed (not b) (ls ++ line.Head version ∷ [])
+    by true q = (version, q, ap (λ x. x ++ line.Head version ∷ []) e)
+    by false q = (record { version = version; fuel = 0 }, ap (λ x. x ++ line.Head version ∷ []) e ∙ ap (λ b. line.Head version ∷ fuel_lines b 0) (sym q))
+
+pub add_fuel : (fuel : ℕ) (ls : List LogLine) → Headed false ls → Headed true (ls ++ line.Fuel fuel ∷ [])
+add_fuel fuel ls a = (record { version = a.0; fuel = fuel }, ap (λ x. x ++ line.Fuel fuel ∷ []) a.2 ∙ ap (λ b. line.Head a.0 ∷ fuel_lines b fuel) (sym a.1))
 
 -- ---- parts
 part_of : ℕ → Part
@@ -193,7 +212,7 @@ by_parts Claim (p ∷ ps) q e c = elim (nat_eq (number p) (number q)) as (λ t. 
 -- ---- what lies before each place
 abbrev pub At_part : Part → ℕ → ℕ → ℕ → ℕ → Bool → List LogLine → Type 0
 At_part part.Start n left h c w ls = ls ≡ []
-At_part part.Head n left h c w ls = (version : ℕ) × (ls ≡ line.Head version ∷ [])
+At_part part.Head n left h c w ls = Headed w ls
 At_part part.Between n left h c w ls = Between n left ls
 At_part part.Prove n left h c w ls = Named n left ls × (h ≡ 0) × (c ≡ 0)
 At_part part.Hyps n left h c w ls = Hyps n left h ls × (c ≡ 0)
@@ -225,15 +244,15 @@ stepped s l t e = elim (stands (row_of l).word s.part) as (λ b. stands (row_of 
   | false ↦ λ _ g. cc
 ] refl e
 
-same : (u v : Place) → Some u ≡ Some v → u ≡ v
+pub same : (u v : Place) → Some u ≡ Some v → u ≡ v
 same u v e = cc
 
 -- a test that held, and one that did not
-held : (b : Bool) (u v : Place) → cond b (Some u) None ≡ Some v → (b ≡ true) × (u ≡ v)
+pub held : (b : Bool) (u v : Place) → cond b (Some u) None ≡ Some v → (b ≡ true) × (u ≡ v)
 held true u v e = (refl, same u v e)
 held false u v e = cc
 
-failed : (b : Bool) (u v : Place) → cond b None (Some u) ≡ Some v → (b ≡ false) × (u ≡ v)
+pub failed : (b : Bool) (u v : Place) → cond b None (Some u) ≡ Some v → (b ≡ false) × (u ≡ v)
 failed true u v e = cc
 failed false u v e = (refl, same u v e)
 
@@ -268,10 +287,15 @@ module _ (s t : Place) (ls : List LogLine) where
   pub steps_on : (l : LogLine) → Stepped s l t → At s ls → At t (ls ++ l ∷ [])
   steps_on (line.Head version) d a =
       let b = from (ls ≡ []) (line.Head version) d a ((λ b. b), tt) in
-      arrive t d.counts s part.Head _ d.behind (same _ _ d.count) (version, ap (λ x. x ++ line.Head version ∷ []) b)
+      arrive t d.counts (record s { whole = not (has_second version) }) part.Head _ d.behind (same _ _ d.count) (add_head version ls b)
+  steps_on (line.Fuel n) d a =
+      let q = failed s.whole (record s { whole = true }) d.counts d.count in
+      let b = from (Headed s.whole ls) (line.Fuel n) d a ((λ b. b), tt) in
+      arrive t d.counts (record s { whole = true }) part.Head _ d.behind q.1 (add_fuel n ls (subst (λ w. Headed w ls) q.0 b))
   steps_on (line.Proves n) d a =
-      let b = from ((version : ℕ) × (ls ≡ line.Head version ∷ [])) (line.Proves n) d a ((λ b. b), tt) in
-      arrive t d.counts (record s { proofs = n; left = n }) part.Between _ d.behind (same _ _ d.count) (add_proves b.0 n ls b.1)
+      let q = held s.whole (record s { proofs = n; left = n }) d.counts d.count in
+      let b = subst (λ w. Headed w ls) q.0 (from (Headed s.whole ls) (line.Proves n) d a ((λ b. b), tt)) in
+      arrive t d.counts (record s { proofs = n; left = n }) part.Between _ d.behind q.1 (add_proves b.0 n ls b.1)
   steps_on (line.Prove k) d a =
       let b = from (Between s.proofs s.left ls) (line.Prove k) d a ((λ b. b), tt) in
       let next : Place = record s { left = s.left - 1; hyps = 0; cons = 0 } in

@@ -1,5 +1,5 @@
 -- The text of a log, as its parts are written one behind the other, is that of its lines.
-use Rattle.std.proofs.Common.{◌≡◌, ◌+◌, ℕ, suc, List, [], ◌∷◌, ◌++◌, length, map, refl, sym, ◌∙◌, ap, arith, append_assoc, append-nil, codes, decimal}
+use Rattle.std.proofs.Common.{◌≡◌, ◌+◌, ℕ, suc, List, [], ◌∷◌, ◌++◌, Bool, true, false, length, map, refl, sym, ◌∙◌, ap, arith, append_assoc, append-nil, codes, decimal}
 use Rattle.std.specs.List.{flat_map}
 use Rattle.poly_model.specs.declared.vars.VarName.{VarName}
 use Rattle.proof_steps.specs.declared.piece.LeafStatus.{LeafStatus}
@@ -13,9 +13,11 @@ use Rattle.proof_log.specs.declared.line.LogLine.{LogLine}
 use Rattle.proof_log.specs.declared.line.LogLine.TheVariants as line
 use Rattle.proof_log.specs.declared.line.LineWord.TheVariants as word
 use Rattle.proof_log.specs.declared.log.Proof.{Proof}
+use Rattle.proof_steps.specs.Rules.{has_second}
+use Rattle.proof_log.specs.Headings.{Heading, fuel_lines}
 use Rattle.proof_log.specs.Lines.{step_line, status_line, list_lines, outcome_lines, work_lines, piece_lines, proof_lines, proofs_lines, log_lines}
 use Rattle.proof_log.specs.Text.{line_text, names_after, text_of, word_text}
-use Rattle.proof_log.specs.Writing.{whole_line, polynomials_text, step_text, chain_text, lists_text, outcome_text, piece_text, count_text, proof_text, proofs_text, log_text}
+use Rattle.proof_log.specs.Writing.{whole_line, polynomials_text, step_text, chain_text, lists_text, outcome_text, piece_text, count_text, proof_text, proofs_text, fuel_text, log_text}
 
 -- ---- numbered proofs
 pub proofs_next : (k : ℕ) (rest others : List Proof) (p : Proof) → rest ≡ p ∷ others → proofs_text k rest ≡ proof_text k p ++ proofs_text (k + 1) others
@@ -131,15 +133,25 @@ all-proofs names k (p ∷ ps) =
     ap (text_of names) (append_assoc (proof_lines k p) (proofs_lines (suc k) ps) (line.End ∷ [])) ∙ one-proof names k p (proofs_lines (suc k) ps ++ line.End ∷ [])
     ∙ ap (λ l. proof_text k p ++ l) (all-proofs p.problem.vars (suc k) ps) ∙ sym (append_assoc (proof_text k p) (proofs_text (suc k) ps) (codes "end\n"))
 
-pub whole_log : (version : ℕ) (ps : List Proof) → text_of [] (log_lines version ps) ≡ log_text version ps
-whole_log version ps =
-    let a = count_text word.Head version in
+pub whole_log : (h : Heading) (ps : List Proof) → text_of [] (log_lines h ps) ≡ log_text h ps
+whole_log h ps =
+    let a = count_text word.Head h.version in
     let b = count_text word.Proves (length ps) in
     let rest = proofs_lines 1 ps ++ line.End ∷ [] in
     let number : (n : ℕ) → (decimal n ++ []) ++ [] ≡ decimal n = λ n. append-nil (decimal n ++ []) ∙ append-nil (decimal n) in
-    kept-line [] (line.Head version) (line.Proves (length ps) ∷ rest) refl
-    ∙ ap (λ l. (word_text word.Head ++ (32 ∷ l) ++ 10 ∷ []) ++ text_of [] (line.Proves (length ps) ∷ rest)) (number version)
-    ∙ ap (λ l. a ++ l) (kept-line [] (line.Proves (length ps)) rest refl)
-    ∙ ap (λ l. a ++ ((word_text word.Proves ++ (32 ∷ l) ++ 10 ∷ []) ++ text_of [] rest)) (number (length ps))
-    ∙ ap (λ l. a ++ (b ++ l)) (all-proofs [] 1 ps)
-    ∙ sym (append_assoc (a ++ b) (proofs_text 1 ps) (codes "end\n") ∙ append_assoc a b (proofs_text 1 ps ++ codes "end\n"))
+    kept-line [] (line.Head h.version) (fuel_lines (has_second h.version) h.fuel ++ (line.Proves (length ps) ∷ rest)) refl
+    ∙ ap (λ l. (word_text word.Head ++ (32 ∷ l) ++ 10 ∷ []) ++ text_of [] (fuel_lines (has_second h.version) h.fuel ++ (line.Proves (length ps) ∷ rest))) (number h.version)
+    ∙ ap (λ l. a ++ l) (fuel (has_second h.version) (line.Proves (length ps) ∷ rest))
+    ∙ ap (λ l. a ++ (fuel_text (has_second h.version) h.fuel ++ l)) (kept-line [] (line.Proves (length ps)) rest refl)
+    ∙ ap (λ l. a ++ (fuel_text (has_second h.version) h.fuel ++ ((word_text word.Proves ++ (32 ∷ l) ++ 10 ∷ []) ++ text_of [] rest))) (number (length ps))
+    ∙ ap (λ l. a ++ (fuel_text (has_second h.version) h.fuel ++ (b ++ l))) (all-proofs [] 1 ps)
+    ∙ regroup-log a (fuel_text (has_second h.version) h.fuel) b (proofs_text 1 ps) (codes "end\n")
+  where
+    regroup-log : (a f b c d : List ℕ) → a ++ (f ++ (b ++ (c ++ d))) ≡ (((a ++ f) ++ b) ++ c) ++ d
+    regroup-log a f b c d = simp append_assoc
+
+    fuel : (s : Bool) (rest : List LogLine) → text_of [] (fuel_lines s h.fuel ++ rest) ≡ fuel_text s h.fuel ++ text_of [] rest
+    fuel false rest = refl
+    fuel true rest =
+        kept-line [] (line.Fuel h.fuel) rest refl
+        ∙ ap (λ l. (word_text word.Fuel ++ (32 ∷ l) ++ 10 ∷ []) ++ text_of [] rest) (append-nil (decimal h.fuel ++ []) ∙ append-nil (decimal h.fuel))

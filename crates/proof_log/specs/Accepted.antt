@@ -1,7 +1,7 @@
 -- Accepted logs.
-use Rattle.std.specs.Prelude.{◌≡◌, ℕ, ◌/◌, List, [], ◌∷◌, length, IsTrue}
+use Rattle.std.specs.Prelude.{◌≡◌, ℕ, List, [], ◌∷◌, length, IsTrue}
 use Rattle.std.specs.List.{list_all}
-use Rattle.poly_model.specs.declared.limits.TheConstants.{MOST_FUEL}
+use Rattle.proof_log.specs.Headings.{Heading, share_of}
 use Rattle.proof_steps.specs.Stated.{is_own_part}
 use Rattle.proof_steps.specs.Trees.{is_tree_of}
 use Rattle.verdicts.specs.Verdicts.{verdict_of}
@@ -19,5 +19,5 @@ AreAccepted version fuel [] = Unit {0}
 AreAccepted version fuel (p ∷ ps) = IsAcceptedProof version fuel p × AreAccepted version fuel ps
 
 -- An accepted log: each proof has an equal share of the fuel.
-abbrev pub IsAccepted : (version : ℕ) → List Proof → Type 0
-IsAccepted version log = AreAccepted version (MOST_FUEL / length log) log
+abbrev pub IsAccepted : Heading → List Proof → Type 0
+IsAccepted h log = AreAccepted h.version (share_of h.fuel (length log)) log

@@ -3,6 +3,7 @@ use Rattle.std.specs.Prelude.{◌≡◌, ℕ, ◌+◌, List, [], ◌∷◌, ◌+
 use Rattle.proof_log.specs.Text.{text_of, AreLines}
 use Rattle.proof_log.specs.Places.{run, start}
 use Rattle.proof_log.specs.Grammar.{names_behind, IsUnended, IsWhole, Begins, Refuses, EndsEarly}
+use Rattle.proof_log.specs.Settings.{unsettled, setting_behind, AreOf}
 use Rattle.proof_log.specs.declared.line.LogLine.{LogLine}
 use Rattle.proof_log.specs.declared.reader.LogReader.{LogReader}
 use Rattle.proof_log.specs.declared.reader.LogFault.{LogFault}
@@ -15,6 +16,8 @@ pub record Fed (front : List LogLine) (r : LogReader) (bytes : List ℕ) : Type 
   pub lines : AreLines [] front
   pub place : run start front ≡ Some r.place
   pub names : r.vars ≡ names_behind [] front
+  pub setting : r.setting ≡ setting_behind unsettled front
+  pub own : AreOf unsettled front
   pub count : r.lines ≡ length front
   pub well : r.fault ≡ None
 
@@ -48,6 +51,7 @@ FedTo (Err f) front r bytes = (r.fault ≡ Some f) × IsFed front r bytes
 -- The bytes have ended, and are a whole log.
 pub record Whole (front : List LogLine) (bytes : List ℕ) : Type 0 where
   pub lines : AreLines [] front
+  pub own : AreOf unsettled front
   pub whole : IsWhole front
   pub text : bytes ≡ text_of [] front
 

@@ -23,10 +23,11 @@ use Rattle.proof_log.specs.declared.told.VerdictRest.{VerdictRest}
 use Rattle.proof_log.specs.declared.told.VerdictRest.TheVariants as rest
 use Rattle.proof_log.specs.declared.told.RestKind.{RestKind}
 use Rattle.proof_log.specs.declared.told.RestKind.TheVariants as rest_kind
-use Rattle.proof_log.specs.Text.{Field, Version, Proofs, Conclusion, Index, Multiplier, Letters, Why, FitsField, FitsPoly, FitPolys, polys_text, Tail, Nothing, Poly, Names, Tried, Told}
+use Rattle.proof_log.specs.Text.{Field, Version, Amount, Proofs, Conclusion, Index, Multiplier, Letters, Why, FitsField, FitsPoly, FitPolys, polys_text, Tail, Nothing, Poly, Names, Tried, Told}
 
 abbrev pub kind_of : Field → FieldKind
 kind_of (Version v) = kind.Version
+kind_of (Amount n) = kind.Amount
 kind_of (Proofs n) = kind.Proofs
 kind_of (Conclusion k) = kind.Conclusion
 kind_of (Index i) = kind.Index
@@ -54,10 +55,11 @@ AreAt (k ∷ ks) (f ∷ fs) = IsAt k f × AreAt ks fs
 
 -- All words, those of most lines first.
 abbrev pub words : List LineWord
-words = word.Red ∷ word.Step ∷ word.Eq ∷ word.Hyp ∷ word.Ne ∷ word.Tail ∷ word.Split ∷ word.Node ∷ word.Drop ∷ word.Close ∷ word.Clash ∷ word.System ∷ word.Proved ∷ word.Con ∷ word.Vars ∷ word.Remainder ∷ word.Unreduced ∷ word.Open ∷ word.Prove ∷ word.Verdict ∷ word.Proves ∷ word.Head ∷ word.End ∷ []
+words = word.Red ∷ word.Step ∷ word.Eq ∷ word.Hyp ∷ word.Ne ∷ word.Tail ∷ word.Split ∷ word.Node ∷ word.Drop ∷ word.Close ∷ word.Clash ∷ word.System ∷ word.Proved ∷ word.Con ∷ word.Vars ∷ word.Remainder ∷ word.Unreduced ∷ word.Open ∷ word.Prove ∷ word.Verdict ∷ word.Proves ∷ word.Fuel ∷ word.Head ∷ word.End ∷ []
 
 abbrev pub field_kinds : LineWord → List FieldKind
 field_kinds word.Head = kind.Version ∷ []
+field_kinds word.Fuel = kind.Amount ∷ []
 field_kinds word.Proves = kind.Proofs ∷ []
 field_kinds word.Prove = kind.Proofs ∷ []
 field_kinds word.Vars = []
@@ -83,6 +85,7 @@ field_kinds word.End = []
 
 abbrev pub tail_kind : LineWord → TailKind
 tail_kind word.Head = tail.Nothing
+tail_kind word.Fuel = tail.Nothing
 tail_kind word.Proves = tail.Nothing
 tail_kind word.Prove = tail.Nothing
 tail_kind word.Vars = tail.Names

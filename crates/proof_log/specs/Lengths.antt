@@ -15,6 +15,10 @@ term_most = 3 + 39 + MOST_VARIABLES * 7
 abbrev pub head_most : ℕ
 head_most = 100
 
+-- The most bytes of a line of variables: each has a blank, a letter and two digits.
+abbrev pub names_most : ℕ
+names_most = head_most + 4 * MOST_VARIABLES
+
 -- The most bytes of a verdict's line.
 abbrev pub verdict_most : Verdict → ℕ
 verdict_most (verdict.Under cs) = head_most + term_most * sizes cs
@@ -27,9 +31,10 @@ verdict_most (verdict.Left path why) = 2 * head_most
 -- polynomial stands for one unit more than its terms, and the unit of a split is also that of the line of its node.
 abbrev pub line_all : LogLine → ℕ
 line_all (line.Head version) = head_most
+line_all (line.Fuel n) = head_most
 line_all (line.Proves n) = head_most
 line_all (line.Prove k) = head_most
-line_all (line.Vars names) = 2 * head_most
+line_all (line.Vars names) = names_most
 line_all (line.Hyp p) = term_most * (1 + length p)
 line_all (line.Con p) = term_most * (1 + length p)
 line_all (line.Node path) = head_most

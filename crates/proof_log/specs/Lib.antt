@@ -1,3 +1,5 @@
+pub mod Headings
+pub mod Settings
 pub mod Lines
 pub mod Text
 pub mod Lengths

@@ -11,6 +11,8 @@ use Rattle.proof_steps.specs.declared.piece.Outcome.TheVariants as outcome
 use Rattle.proof_steps.specs.declared.problem.Problem.{Problem}
 use Rattle.proof_steps.specs.declared.step.Step.{Step}
 use Rattle.proof_steps.specs.declared.step.Step.TheVariants as step
+use Rattle.proof_steps.specs.Rules.{has_second}
+use Rattle.proof_log.specs.Headings.{Heading, fuel_lines}
 use Rattle.proof_log.specs.declared.line.LogLine.{LogLine}
 use Rattle.proof_log.specs.declared.line.LogLine.TheVariants as line
 use Rattle.proof_log.specs.declared.log.Proof.{Proof}
@@ -56,8 +58,11 @@ unfoldable pub proofs_lines : ℕ → List Proof → List LogLine
 proofs_lines k [] = []
 proofs_lines k (p ∷ ps) = proof_lines k p ++ proofs_lines (suc k) ps
 
-abbrev pub log_lines : ℕ → List Proof → List LogLine
-log_lines version ps = line.Head version ∷ line.Proves (length ps) ∷ (proofs_lines 1 ps ++ line.End ∷ [])
+abbrev pub heading_lines : Heading → List LogLine
+heading_lines h = line.Head h.version ∷ fuel_lines (has_second h.version) h.fuel
+
+abbrev pub log_lines : Heading → List Proof → List LogLine
+log_lines h ps = heading_lines h ++ (line.Proves (length ps) ∷ (proofs_lines 1 ps ++ line.End ∷ []))
 
 -- ---- which logs have lines
 

@@ -1,7 +1,8 @@
 -- Where each line may stand: a machine that takes the lines of logs one behind the other.
-use Rattle.std.specs.Prelude.{ℕ, ◌+◌, ◌-◌, List, [], ◌∷◌, Option, Some, None, Bool, true, false, if◌then◌else◌, ◌&&◌, ◌==◌, nat_lt, nat_eq}
+use Rattle.std.specs.Prelude.{ℕ, ◌+◌, ◌-◌, List, [], ◌∷◌, Option, Some, None, Bool, true, false, if◌then◌else◌, ◌&&◌, not, ◌==◌, nat_lt, nat_eq}
 use Rattle.std.specs.List.{list_any}
 use Rattle.poly_model.specs.declared.limits.TheConstants.{MOST_HYPOTHESES, MOST_CONCLUSIONS}
+use Rattle.proof_steps.specs.Rules.{has_second}
 use Rattle.proof_log.specs.Text.{row_of}
 use Rattle.proof_log.specs.declared.line.LineWord.{LineWord}
 use Rattle.proof_log.specs.declared.line.LineWord.TheVariants as word
@@ -14,6 +15,7 @@ use Rattle.proof_log.specs.declared.place.Place.{Place}
 -- The parts behind which a line of a word may stand, and the part that it belongs to.
 abbrev pub parts_before : LineWord → List Part
 parts_before word.Head = part.Start ∷ []
+parts_before word.Fuel = part.Head ∷ []
 parts_before word.Proves = part.Head ∷ []
 parts_before word.Prove = part.Between ∷ []
 parts_before word.Vars = part.Prove ∷ []
@@ -39,6 +41,7 @@ parts_before word.End = part.Between ∷ []
 
 abbrev pub part_behind : LineWord → Part
 part_behind word.Head = part.Head
+part_behind word.Fuel = part.Head
 part_behind word.Proves = part.Between
 part_behind word.Prove = part.Prove
 part_behind word.Vars = part.Hyps
@@ -89,6 +92,10 @@ if_whole place next = if place.whole then Some (record place { whole = next }) e
 abbrev pub if_not_whole : Place → Bool → Option Place
 if_not_whole place next = if place.whole then None else Some (record place { whole = next })
 
+-- The head is whole where it has the fuel, in a version that states it. The place behind it where the log has n proofs.
+abbrev pub proves_at : Place → ℕ → Option Place
+proves_at place n = if place.whole then Some (record place { proofs = n; left = n }) else None
+
 -- The place where the next proof has begun, if this is its number; and where there is one more hypothesis or conclusion,
 -- if there may be.
 abbrev pub proof_at : Place → ℕ → Option Place
@@ -102,8 +109,9 @@ con_at place = if nat_lt place.cons MOST_CONCLUSIONS then Some (record place { c
 
 -- The counts behind a line, if they allow it; the part is not looked at.
 abbrev pub counted : Place → LogLine → Option Place
-counted place (line.Head version) = Some place
-counted place (line.Proves n) = Some (record place { proofs = n; left = n })
+counted place (line.Head version) = Some (record place { whole = not (has_second version) })
+counted place (line.Fuel n) = if_not_whole place true
+counted place (line.Proves n) = proves_at place n
 counted place (line.Prove k) = proof_at place k
 counted place (line.Vars names) = Some place
 counted place (line.Hyp p) = hyp_at place

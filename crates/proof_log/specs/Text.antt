@@ -8,8 +8,9 @@ use Rattle.poly_model.specs.Content.{is_negative}
 use Rattle.poly_model.specs.Names.{are_variables}
 use Rattle.poly_model.specs.declared.vars.VarName.{VarName}
 use Rattle.poly_text.specs.Text.{poly_text, variable_text}
-use Rattle.poly_model.specs.declared.limits.TheConstants.{MOST_LETTERS, MOST_SIZE, MOST_CONCLUSIONS}
-use Rattle.proof_log.specs.declared.limits.TheConstants.{MOST_INDEX, MOST_PROOFS, VERSION}
+use Rattle.poly_model.specs.declared.limits.TheConstants.{MOST_FUEL, MOST_LETTERS, MOST_SIZE, MOST_CONCLUSIONS}
+use Rattle.proof_log.specs.declared.limits.TheConstants.{MOST_INDEX, MOST_PROOFS}
+use Rattle.proof_steps.specs.declared.version.TheConstants.{VERSION}
 use Rattle.proof_steps.specs.declared.step.Attempt.{Attempt}
 use Rattle.proof_steps.specs.declared.step.Attempt.TheVariants as attempt
 use Rattle.poly_model.specs.declared.limits.Reason.{Reason}
@@ -21,7 +22,7 @@ use Rattle.proof_log.specs.declared.line.LogLine.TheVariants as line
 use Rattle.proof_log.specs.declared.line.LineWord.{LineWord}
 use Rattle.proof_log.specs.declared.line.LineWord.TheVariants as word
 pub use Rattle.proof_log.specs.declared.field.Field.{Field}
-pub use Rattle.proof_log.specs.declared.field.Field.TheVariants.{Version, Proofs, Conclusion, Index, Multiplier, Letters, Why}
+pub use Rattle.proof_log.specs.declared.field.Field.TheVariants.{Version, Amount, Proofs, Conclusion, Index, Multiplier, Letters, Why}
 pub use Rattle.proof_log.specs.declared.tail.Tail.{Tail}
 pub use Rattle.proof_log.specs.declared.tail.Tail.TheVariants.{Nothing, Poly, Names, Tried, Told}
 
@@ -45,6 +46,7 @@ minus_where false = []
 abbrev pub field_text : Field → List ℕ
 field_text (Index i) = decimal i
 field_text (Version v) = decimal v
+field_text (Amount n) = decimal n
 field_text (Proofs n) = decimal n
 field_text (Conclusion k) = decimal k
 field_text (Multiplier m) = minus_where (is_negative m) ++ decimal (unsigned_abs m)
@@ -54,6 +56,7 @@ field_text (Why r) = reason_text r
 abbrev pub FitsField : Field → Type 0
 FitsField (Index i) = (1 ≤ i) × (i ≤ MOST_INDEX)
 FitsField (Version v) = (1 ≤ v) × (v ≤ VERSION)
+FitsField (Amount n) = (1 ≤ n) × (n ≤ MOST_FUEL)
 FitsField (Proofs n) = n ≤ MOST_PROOFS
 FitsField (Conclusion k) = (1 ≤ k) × (k ≤ MOST_CONCLUSIONS)
 FitsField (Multiplier m) = (1 ≤ unsigned_abs m) × (unsigned_abs m ≤ MOST_SIZE)
@@ -138,6 +141,7 @@ row w fs t = record { word = w; fields = fs; tail = t }
 
 abbrev pub row_of : LogLine → Row
 row_of (line.Head v) = row word.Head (Version v ∷ []) Nothing
+row_of (line.Fuel n) = row word.Fuel (Amount n ∷ []) Nothing
 row_of (line.Proves n) = row word.Proves (Proofs n ∷ []) Nothing
 row_of (line.Prove k) = row word.Prove (Proofs k ∷ []) Nothing
 row_of (line.Vars names) = row word.Vars [] (Names names)
@@ -163,6 +167,7 @@ row_of line.End = row word.End [] Nothing
 
 abbrev pub word_text : LineWord → List ℕ
 word_text word.Head = codes "gclc-proof"
+word_text word.Fuel = codes "fuel"
 word_text word.Proves = codes "proves"
 word_text word.Prove = codes "prove"
 word_text word.Vars = codes "vars"
@@ -198,6 +203,7 @@ IsLine names l = FitFields (row_of l).fields × FitsTail names (row_of l).tail
 abbrev pub names_after : List VarName → LogLine → List VarName
 names_after names (line.Vars ns) = ns
 names_after names (line.Head version) = names
+names_after names (line.Fuel n) = names
 names_after names (line.Proves n) = names
 names_after names (line.Prove k) = names
 names_after names (line.Hyp p) = names

@@ -1,5 +1,7 @@
 -- The text of a log as it is written, part by part, over the variables of each problem.
-use Rattle.std.specs.Prelude.{ℕ, suc, List, [], ◌∷◌, ◌++◌, codes, decimal, length}
+use Rattle.std.specs.Prelude.{ℕ, suc, List, [], ◌∷◌, ◌++◌, Bool, if◌then◌else◌, codes, decimal, length}
+use Rattle.proof_steps.specs.Rules.{has_second}
+use Rattle.proof_log.specs.Headings.{Heading}
 use Rattle.std.specs.List.{flat_map}
 use Rattle.desk_io.specs.Characters.{line_feed}
 use Rattle.poly_model.specs.Polynomial.{Polynomial}
@@ -87,5 +89,12 @@ abbrev pub proofs_text : ℕ → List Proof → List ℕ
 proofs_text k [] = []
 proofs_text k (p ∷ ps) = proof_text k p ++ proofs_text (suc k) ps
 
-abbrev pub log_text : ℕ → List Proof → List ℕ
-log_text version ps = count_text word.Head version ++ count_text word.Proves (length ps) ++ proofs_text 1 ps ++ codes "end\n"
+-- The fuel, where it is stated.
+abbrev pub fuel_text : Bool → ℕ → List ℕ
+fuel_text stated n = if stated then count_text word.Fuel n else []
+
+abbrev pub heading_text : Heading → List ℕ
+heading_text h = count_text word.Head h.version ++ fuel_text (has_second h.version) h.fuel
+
+abbrev pub log_text : Heading → List Proof → List ℕ
+log_text h ps = heading_text h ++ count_text word.Proves (length ps) ++ proofs_text 1 ps ++ codes "end\n"

@@ -10,17 +10,18 @@ ghost use Rattle.proof_log.specs.Text.{Field, Multiplier, letter_text, reason_te
 
 use crate::cut::cut;
 use crate::fault::LineFault;
-use crate::limits::{MOST_INDEX, MOST_PROOFS, VERSION};
-use poly_model::{MOST_CONCLUSIONS, MOST_LETTERS, MOST_SIZE, Reason};
+use crate::limits::{MOST_INDEX, MOST_PROOFS};
+use poly_model::{MOST_CONCLUSIONS, MOST_FUEL, MOST_LETTERS, MOST_SIZE, Reason};
 use poly_text::read_number;
-use proof_steps::Path;
+use proof_steps::{Path, VERSION};
 use std::alloc::Global;
 
-/// A small field of a line: a version, how many proofs or which, a conclusion, an equation or a condition, a multiplier,
+/// A small field of a line: a version, a fuel, how many proofs or which, a conclusion, an equation or a condition, a multiplier,
 /// a path, a reason.
 #[derive(Clone, Copy, Debug)]
 pub enum Field {
     Version(u8),
+    Amount(u32),
     Proofs(u8),
     Conclusion(u8),
     Index(u16),
@@ -33,6 +34,7 @@ pub enum Field {
 #[derive(Clone, Copy, Debug, PartialEq, Eq)]
 pub enum FieldKind {
     Version,
+    Amount,
     Proofs,
     Conclusion,
     Index,
@@ -153,6 +155,10 @@ fn field_of(kind: FieldKind, text: &[u8]) -> Option<Field>
     match kind {
         FieldKind::Version => match number_of(1, VERSION as u128, text) {
             Some(v) => Some(Field::Version(v as u8)),
+            None => None,
+        },
+        FieldKind::Amount => match number_of(1, MOST_FUEL as u128, text) {
+            Some(n) => Some(Field::Amount(n as u32)),
             None => None,
         },
         FieldKind::Proofs => match number_of(0, MOST_PROOFS as u128, text) {

@@ -9,6 +9,7 @@ use verdicts::Verdict;
 #[derive(Debug, Drop)]
 pub enum LogLine {
     Head(u8),
+    Fuel(u32),
     Proves(u8),
     Prove(u8),
     Vars(Vars),
@@ -55,6 +56,7 @@ pub enum LogLine {
 #[derive(Clone, Copy, Debug, PartialEq, Eq)]
 pub enum LineWord {
     Head,
+    Fuel,
     Proves,
     Prove,
     Vars,
@@ -86,6 +88,7 @@ impl LogLine {
     {
         match self {
             LogLine::Head(_) => LineWord::Head,
+            LogLine::Fuel(_) => LineWord::Fuel,
             LogLine::Proves(_) => LineWord::Proves,
             LogLine::Prove(_) => LineWord::Prove,
             LogLine::Vars(_) => LineWord::Vars,

@@ -41,6 +41,7 @@ fn all_words() -> &'static [LineWord]
         LineWord::Prove,
         LineWord::Verdict,
         LineWord::Proves,
+        LineWord::Fuel,
         LineWord::Head,
         LineWord::End,
     ]
@@ -66,6 +67,7 @@ fn kinds_of(word: LineWord) -> &'static [FieldKind]
 {
     match word {
         LineWord::Head => &[FieldKind::Version],
+        LineWord::Fuel => &[FieldKind::Amount],
         LineWord::Proves | LineWord::Prove => &[FieldKind::Proofs],
         LineWord::Node => &[FieldKind::Letters],
         LineWord::Drop | LineWord::Tail | LineWord::Split | LineWord::Close => &[FieldKind::Index],
@@ -96,6 +98,7 @@ fn rest_of(word: LineWord) -> TailKind
         LineWord::Head | LineWord::Proves | LineWord::Prove => TailKind::Nothing,
         LineWord::Node | LineWord::Drop | LineWord::Close => TailKind::Nothing,
         LineWord::Clash | LineWord::System | LineWord::Proved => TailKind::Nothing,
+        LineWord::Fuel => TailKind::Nothing,
         LineWord::Remainder | LineWord::Unreduced | LineWord::End => TailKind::Nothing,
     }
 }
@@ -108,6 +111,7 @@ fn field_line(word: LineWord, field: Field) -> Option<LogLine>
 {
     match (word, field) {
         (LineWord::Head, Field::Version(v)) => Some(LogLine::Head(v)),
+        (LineWord::Fuel, Field::Amount(n)) => Some(LogLine::Fuel(n)),
         (LineWord::Proves, Field::Proofs(n)) => Some(LogLine::Proves(n)),
         (LineWord::Prove, Field::Proofs(k)) => Some(LogLine::Prove(k)),
         (LineWord::Node, Field::Letters(path)) => Some(LogLine::Node(path)),
@@ -141,6 +145,21 @@ fn bare_line(word: LineWord, fields: &[Field]) -> Option<LogLine>
     }
 }
 
+/// The line of a word and a polynomial.
+fn plain_line(word: LineWord, p: OwnedPoly) -> Option<LogLine>
+    ensures some { IfSome result (λ l. row_of l ≡ row word [] (Tail.Poly p)) }
+    ensures none { IfNone result (AreAt (field_kinds word) []
+        → TailKind.Poly ≡ tail_kind word → ⊥) }
+{
+    match word {
+        LineWord::Hyp => Some(LogLine::Hyp(p)),
+        LineWord::Con => Some(LogLine::Con(p)),
+        LineWord::Eq => Some(LogLine::Eq(p)),
+        LineWord::Ne => Some(LogLine::Ne(p)),
+        _ => None,
+    }
+}
+
 /// The line of a word, its fields and a polynomial.
 fn poly_line(word: LineWord, fields: &[Field], p: OwnedPoly) -> Option<LogLine>
     ensures some { IfSome result (λ l. row_of l ≡ row word fields.now (Tail.Poly p)) }
@@ -148,8 +167,7 @@ fn poly_line(word: LineWord, fields: &[Field], p: OwnedPoly) -> Option<LogLine>
         → TailKind.Poly ≡ tail_kind word → ⊥) }
 {
     match (word, fields) {
-        (LineWord::Hyp, []) => Some(LogLine::Hyp(p)),
-        (LineWord::Con, []) => Some(LogLine::Con(p)),
+        (_, []) => plain_line(word, p),
         (LineWord::Red, [Field::Index(g), Field::Index(f), Field::Multiplier(m)]) => {
             Some(LogLine::Red {
                 g: *g,
@@ -168,8 +186,6 @@ fn poly_line(word: LineWord, fields: &[Field], p: OwnedPoly) -> Option<LogLine>
                 r: p,
             }))
         }
-        (LineWord::Eq, []) => Some(LogLine::Eq(p)),
-        (LineWord::Ne, []) => Some(LogLine::Ne(p)),
         _ => None,
     }
 }

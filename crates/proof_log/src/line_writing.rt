@@ -81,6 +81,7 @@ fn write_field<S: Sink>(field: &Field, pen: &mut Pen, sink: &mut S) -> Result<()
 {
     match field {
         Field::Version(v) => write_number(*v as u128, pen, sink),
+        Field::Amount(n) => write_number(*n as u128, pen, sink),
         Field::Proofs(n) => write_number(*n as u128, pen, sink),
         Field::Conclusion(k) => write_number(*k as u128, pen, sink),
         Field::Index(i) => write_number(*i as u128, pen, sink),

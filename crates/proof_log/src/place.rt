@@ -1,9 +1,10 @@
 ghost use Rattle.std.specs.Prelude.{◌≡◌, Option, Some, None, Bool};
 ghost use Rattle.proof_log.specs.Text.{row_of};
-ghost use Rattle.proof_log.specs.Places.{stands, part_behind, counted, goes, start, is_done, whole_at, if_whole, if_not_whole, proof_at, hyp_at, con_at};
+ghost use Rattle.proof_log.specs.Places.{stands, part_behind, counted, goes, start, is_done, whole_at, if_whole, if_not_whole, proves_at, proof_at, hyp_at, con_at};
 
 use crate::line::{LineWord, LogLine};
 use poly_model::{MOST_CONCLUSIONS, MOST_HYPOTHESES};
+use proof_steps::has_second;
 
 /// What of a log lies right before a line.
 #[derive(Clone, Copy, Debug, PartialEq, Eq)]
@@ -47,7 +48,7 @@ fn stands(word: LineWord, part: Part) -> bool
 {
     match word {
         LineWord::Head => matches!(part, Part::Start),
-        LineWord::Proves => matches!(part, Part::Head),
+        LineWord::Fuel | LineWord::Proves => matches!(part, Part::Head),
         LineWord::Prove | LineWord::End => matches!(part, Part::Between),
         LineWord::Vars => matches!(part, Part::Prove),
         LineWord::Hyp => matches!(part, Part::Hyps),
@@ -69,7 +70,7 @@ fn part_behind(word: LineWord) -> Part
     ensures { result ≡ part_behind word }
 {
     match word {
-        LineWord::Head => Part::Head,
+        LineWord::Head | LineWord::Fuel => Part::Head,
         LineWord::Proves | LineWord::Verdict => Part::Between,
         LineWord::Prove => Part::Prove,
         LineWord::Vars | LineWord::Hyp => Part::Hyps,
@@ -113,6 +114,21 @@ fn if_not_whole(place: Place, whole: bool) -> Option<Place>
         None
     } else {
         Some(Place { whole, ..place })
+    }
+}
+
+/// The place behind a head that is whole, where the log has so many proofs.
+fn proves_at(place: Place, n: u8) -> Option<Place>
+    ensures { result ≡ proves_at place n }
+{
+    if place.whole {
+        Some(Place {
+            proofs: n,
+            left: n,
+            ..place
+        })
+    } else {
+        None
     }
 }
 
@@ -165,11 +181,12 @@ fn counted(place: Place, line: &LogLine) -> Option<Place>
     ensures { result ≡ counted place line.now }
 {
     match line {
-        LogLine::Proves(n) => Some(Place {
-            proofs: *n,
-            left: *n,
+        LogLine::Head(version) => Some(Place {
+            whole: !has_second(*version),
             ..place
         }),
+        LogLine::Fuel(_) => if_not_whole(place, true),
+        LogLine::Proves(n) => proves_at(place, *n),
         LogLine::Prove(k) => proof_at(place, *k),
         LogLine::Hyp(_) => hyp_at(place),
         LogLine::Con(_) => con_at(place),
@@ -185,7 +202,7 @@ fn counted(place: Place, line: &LogLine) -> Option<Place>
         LogLine::Unreduced { .. } => if_not_whole(place, true),
         LogLine::Verdict(_) => if_whole(place, true),
         LogLine::End => { if place.left == 0 { Some(place) } else { None } }
-        LogLine::Head(_) | LogLine::Vars(_) | LogLine::Drop(_) | LogLine::Red { .. } => Some(place),
+        LogLine::Vars(_) | LogLine::Drop(_) | LogLine::Red { .. } => Some(place),
         LogLine::Tail { .. } | LogLine::Eq(_) | LogLine::Ne(_) => Some(place),
     }
 }

@@ -1,8 +1,9 @@
-ghost use Rattle.std.specs.Prelude.{◌≡◌, ◌<◌, ◌≤◌, ◌+◌, ◌^◌, ◌++◌, ◌∷◌, [], ℕ, List, Option, Some, None, Result, Err, IfOk, IfErr, OnOk, IsErrOf, length};
+ghost use Rattle.std.specs.Prelude.{◌≡◌, ◌<◌, ◌≤◌, ◌+◌, ◌^◌, ◌++◌, ◌∷◌, [], ℕ, List, Option, Some, None, Result, Err, IfOk, IfErr, OnOk, IsErrOf, IsTrue, length};
 ghost use Rattle.desk_io.specs.Characters.{line_feed};
 ghost use Rattle.proof_log.specs.Text.{line_text, IsLine, names_after};
 ghost use Rattle.proof_log.specs.Places.{goes};
 ghost use Rattle.proof_log.specs.Grammar.{IsUnended};
+ghost use Rattle.proof_log.specs.Settings.{is_of};
 ghost use Rattle.proof_log.specs.declared.fault.LineFault.{LineFault};
 ghost use Rattle.proof_log.specs.declared.line.LogLine.{LogLine};
 ghost use Rattle.proof_log.specs.declared.reader.LogFault.{LogFault};
@@ -12,6 +13,7 @@ use crate::fault::LineFault;
 use crate::line::LogLine;
 use crate::line_reading::read_line;
 use crate::place::{Place, goes, is_done, start};
+use crate::setting::Setting;
 use poly_model::{MOST_VARIABLES, Vars};
 use std::alloc::{AllocError, Global};
 use std::mem;
@@ -34,6 +36,7 @@ pub struct LogReader {
     /// The bytes of the line that has not ended.
     held: Vec<u8>,
     vars: Vars,
+    setting: Setting,
     place: Place,
     /// How many lines were handed out.
     lines: u32,
@@ -66,6 +69,7 @@ impl LogReader {
             alloc,
             held: Vec::new(alloc),
             vars: Vars::from_names(&[]).unwrap(),
+            setting: Setting::unsettled(),
             place: start(),
             lines: 0,
             fed: 0,
@@ -77,17 +81,22 @@ impl LogReader {
     fn line_of(&self, text: &[u8]) -> Result<(LogLine, Place), LineFault>
         ensures reads { IfOk result (λ x. IsLine self.now.vars x.0
             × (text.now ≡ line_text self.now.vars x.0)
-            × (goes self.now.place x.0 ≡ Some x.1)) }
+            × (goes self.now.place x.0 ≡ Some x.1) × IsTrue (is_of self.now.setting x.0)) }
         ensures refuses { IsErrOf result LineFault.Malformed → (l : LogLine)
-            → IsLine self.now.vars l → text.now ≡ line_text self.now.vars l
-            → goes self.now.place l ≡ None }
+            → IsLine self.now.vars l → IsTrue (is_of self.now.setting l)
+            → text.now ≡ line_text self.now.vars l → goes self.now.place l ≡ None }
     {
         prove!(self.vars.len() <= MOST_VARIABLES);
         match read_line(self.alloc, text, &self.vars) {
-            Ok(line) => match goes(self.place, &line) {
-                Some(place) => Ok((line, place)),
-                None => Err(LineFault::Malformed),
-            },
+            Ok(line) => {
+                if !self.setting.has(&line) {
+                    return Err(LineFault::Malformed);
+                }
+                match goes(self.place, &line) {
+                    Some(place) => Ok((line, place)),
+                    None => Err(LineFault::Malformed),
+                }
+            }
             Err(fault) => Err(fault),
         }
     }
@@ -105,11 +114,13 @@ impl LogReader {
         match self.line_of(text) {
             Ok((line, place)) => {
                 let vars = names_after(self.vars, &line);
+                let setting = self.setting.after(&line);
                 let Ok(()) = lines.push(line) else {
                     self.fault = Some(LogFault::OutOfMemory);
                     return Err(LogFault::OutOfMemory);
                 };
                 self.vars = vars;
+                self.setting = setting;
                 self.place = place;
                 self.lines += 1;
                 Ok(())

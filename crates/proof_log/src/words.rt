@@ -11,6 +11,7 @@ pub fn word_text(word: LineWord) -> &'static [u8]
 {
     match word {
         LineWord::Head => b"gclc-proof",
+        LineWord::Fuel => b"fuel",
         LineWord::Proves => b"proves",
         LineWord::Prove => b"prove",
         LineWord::Vars => b"vars",

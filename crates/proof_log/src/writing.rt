@@ -6,18 +6,17 @@ ghost use Rattle.desk_io.specs.Causes.{HasCause};
 ghost use Rattle.proof_log.specs.Lines.{step_line, status_line, log_lines};
 ghost use Rattle.proof_log.specs.Own.{IsOver, StepIsOver, ChainIsOver, OutcomeIsOver, PieceIsOver, ProblemIsOwn, IsOwn};
 ghost use Rattle.proof_log.specs.Text.{word_text, text_of};
-ghost use Rattle.proof_log.specs.Writing.{whole_line, polynomial_line, polynomials_text, step_text, chain_text, lists_text, system_text, open_text, outcome_text, piece_text, problem_text, proof_text, proofs_text, count_text};
-ghost use Rattle.proof_log.specs.declared.limits.TheConstants.{VERSION};
+ghost use Rattle.proof_log.specs.Writing.{whole_line, polynomial_line, polynomials_text, step_text, chain_text, lists_text, system_text, open_text, outcome_text, piece_text, problem_text, proof_text, proofs_text, count_text, heading_text};
+ghost use Rattle.proof_log.specs.Headings.{heading, heading_of};
 
 use crate::field::Field;
-use crate::limits::VERSION;
 use crate::line::LineWord;
 use crate::line_writing::{Rest, write_number, write_row};
 use crate::log::{Log, Proof};
 use crate::words::word_text;
 use desk_io::{Failed, Pen, Sink};
 use poly_model::{OwnedPoly, Reason, Vars};
-use proof_steps::{Attempt, ChainStep, LeafStatus, Outcome, Piece, Problem, Step};
+use proof_steps::{Attempt, ChainStep, LeafStatus, Outcome, Piece, Problem, Step, has_second};
 
 /// Writes a line for each polynomial.
 fn write_polynomials<S: Sink>(
@@ -335,16 +334,29 @@ fn write_proofs<S: Sink>(proofs: &[Proof], pen: &mut Pen, sink: &mut S) -> Resul
     Ok(())
 }
 
-/// Writes the text of a log of the newest version, of which each polynomial that is written has only the variables of its
-/// problem. It takes no memory.
+/// Writes the version, and the fuel where it is stated.
+fn write_heading<S: Sink>(version: u8, fuel: u32, pen: &mut Pen, sink: &mut S) -> Result<(), Failed>
+    ensures bytes { Writes (S.written sink.old) (S.written sink.new) pen.old pen.new result
+        (heading_text (heading version fuel)) }
+    ensures cause { HasCause (S.faults sink.old) (S.faults sink.new) result }
+{
+    write_count(LineWord::Head, version as usize, pen, sink)?;
+    if has_second(version) {
+        return write_count(LineWord::Fuel, fuel as usize, pen, sink);
+    }
+    Ok(())
+}
+
+/// Writes the text of a log of which each polynomial that is written has only the variables of its problem. It takes no
+/// memory.
 pub fn write_log<S: Sink>(log: &Log, pen: &mut Pen, sink: &mut S) -> Result<(), Failed>
     requires { All IsOwn log.now.proofs }
     ensures bytes { Writes (S.written sink.old) (S.written sink.new) pen.old pen.new result
-        (text_of [] (log_lines VERSION log.now.proofs)) }
+        (text_of [] (log_lines (heading_of log.now) log.now.proofs)) }
     ensures cause { HasCause (S.faults sink.old) (S.faults sink.new) result }
 {
     let proofs = log.proofs.as_slice();
-    write_count(LineWord::Head, VERSION as usize, pen, sink)?;
+    write_heading(log.version, log.fuel, pen, sink)?;
     write_count(LineWord::Proves, proofs.len(), pen, sink)?;
     write_proofs(proofs, pen, sink)?;
     pen.push(sink, b"end\n")

@@ -1,6 +1,6 @@
 -- The rules of elimination: where each is valid, and what it makes of a node. Numbers of equations and conditions count
 -- from 1.
-use Rattle.std.specs.Prelude.{ℕ, ◌+◌, ◌-◌, ◌/◌, max, List, [], ◌∷◌, ◌++◌, take, length, Bool, true, false, if◌then◌else◌, ◌&&◌, ◌||◌, not, ◌==◌, nat_lt, Option, Some, None, count_by}
+use Rattle.std.specs.Prelude.{ℕ, ◌+◌, ◌-◌, ◌/◌, max, List, [], ◌∷◌, ◌++◌, take, length, Bool, true, false, if◌then◌else◌, ◌&&◌, ◌||◌, not, ◌==◌, nat_le, nat_lt, Option, Some, None, count_by}
 use Rattle.std.specs.List.{list_any, list_all}
 use Rattle.std.specs.Ordering.{int_eq}
 use Rattle.poly_model.specs.Polynomial.{Polynomial}
@@ -32,6 +32,10 @@ abbrev pub is_triangular : List Polynomial → List Polynomial → Bool
 is_triangular E N = list_all (λ p. not (is_constant p) && is_settled E N (class_of p)) E
 
 -- ---- the rules
+
+-- The version has the rules of the second.
+abbrev pub has_second : (version : ℕ) → Bool
+has_second version = nat_le 2 version
 
 -- Where a rule is valid, by the version of the rules.
 abbrev pub is_valid : ℕ → Node → Attempt → Bool

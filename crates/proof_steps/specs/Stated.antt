@@ -7,22 +7,22 @@ use Rattle.poly_model.specs.Standard.{is_standard}
 use Rattle.poly_model.specs.Reduction.{same}
 use Rattle.poly_model.specs.declared.limits.TheConstants.{MOST_HYPOTHESES, MOST_CONCLUSIONS}
 use Rattle.proof_steps.specs.declared.problem.Problem.{Problem}
-use Rattle.proof_steps.specs.declared.problem.TheConstants.{MOST_STATED_TERMS}
+use Rattle.proof_steps.specs.declared.problem.TheConstants.{MOST_CONCLUSION_TERMS, MOST_STATED_TERMS}
 
 -- A polynomial is its own primitive part.
 abbrev pub is_own_part : Polynomial → Bool
 is_own_part p = same p (primitive_part p)
 
--- It has few terms.
-abbrev pub is_brief : Polynomial → Bool
-is_brief p = nat_le (length p) MOST_STATED_TERMS
+-- It has at most so many terms.
+abbrev pub is_brief : (most : ℕ) → Polynomial → Bool
+is_brief most p = nat_le (length p) most
 
--- Polynomials over the first n variables and within the limits, each its own primitive part and of few terms.
-pub record AreStated (n : ℕ) (ps : List Polynomial) : Type 0 where
+-- Polynomials over the first n variables and within the limits, each its own primitive part and of at most so many terms.
+pub record AreStated (n most : ℕ) (ps : List Polynomial) : Type 0 where
   pub own : IsTrue (list_all (is_over n) ps)
   pub standard : IsTrue (list_all is_standard ps)
   pub parts : IsTrue (list_all is_own_part ps)
-  pub brief : IsTrue (list_all is_brief ps)
+  pub brief : IsTrue (list_all (is_brief most) ps)
 
 -- The polynomials of a problem are within the limits.
 pub record IsWithinLimits (problem : Problem) : Type 0 where
@@ -31,8 +31,8 @@ pub record IsWithinLimits (problem : Problem) : Type 0 where
 
 -- A problem whose polynomials are so; it has at least one conclusion, and not too many polynomials.
 pub record IsStated (problem : Problem) : Type 0 where
-  pub hyps : AreStated (length problem.vars) problem.hyps
-  pub cons : AreStated (length problem.vars) problem.cons
+  pub hyps : AreStated (length problem.vars) MOST_STATED_TERMS problem.hyps
+  pub cons : AreStated (length problem.vars) MOST_CONCLUSION_TERMS problem.cons
   pub few_hyps : length problem.hyps ≤ MOST_HYPOTHESES
   pub some_con : 0 < length problem.cons
   pub few_cons : length problem.cons ≤ MOST_CONCLUSIONS

@@ -6,9 +6,11 @@ mod path;
 mod piece;
 mod problem;
 mod step;
+mod version;
 
 pub use path::Path;
 pub use piece::{ChainStep, LeafStatus, Node, Outcome, Piece, Tree};
 pub use poly_model::Reason;
-pub use problem::{MOST_STATED_TERMS, Problem};
+pub use problem::{MOST_CONCLUSION_TERMS, MOST_STATED_TERMS, Problem};
 pub use step::{Attempt, Step};
+pub use version::{VERSION, has_second};

@@ -4,8 +4,11 @@ ghost use Rattle.poly_model.specs.Standard.{is_standard};
 
 use poly_model::{OwnedPoly, Row, Vars};
 
-/// The most terms of a polynomial that a figure states.
+/// The most terms of a hypothesis that a figure states.
 pub const MOST_STATED_TERMS: usize = 12;
+
+/// The most terms of a conclusion that a figure states.
+pub const MOST_CONCLUSION_TERMS: usize = 12;
 
 /// A problem: over its variables, are the conclusions zero wherever all hypotheses are?
 #[derive(Debug, Drop)]

@@ -9,6 +9,7 @@ use Rattle.proof_steps.specs.declared.piece.Node.{Node}
 use Rattle.proof_steps.specs.declared.piece.Outcome.{Outcome}
 use Rattle.proof_steps.specs.declared.piece.Outcome.TheVariants as outcome
 use Rattle.proof_steps.specs.declared.piece.Piece.{Piece}
+use Rattle.proof_steps.specs.declared.version.TheConstants.{VERSION}
 use Rattle.proof_steps.proofs.Following.{fits}
 use Rattle.branch_core.specs.Trees.{Tree, Fork, preorder}
 use Rattle.tree_laws.specs.Costs.{HaveLess}
@@ -30,11 +31,11 @@ outcome-paired version n (outcome.Clash i j) = tt
 outcome-paired version n (outcome.System chain status) = tt
 outcome-paired version n (outcome.Open why what) = tt
 
-pub expansion-paired : (cons : List Polynomial) (n : Node) → size_of n ≤ n.fuel → ArePaired (expansion_of 1 cons n).1
+pub expansion-paired : (cons : List Polynomial) (n : Node) → size_of n ≤ n.fuel → ArePaired (expansion_of VERSION cons n).1
 expansion-paired cons n enough =
-    let e = expansion_of 1 cons n in
-    let f = fits 1 cons n e.0 e.1 (worked n.fuel 1 cons n (omega arith) enough).follows in
-    subst ArePaired f.nodes (outcome-paired 1 f.end e.0.outcome)
+    let e = expansion_of VERSION cons n in
+    let f = fits VERSION cons n e.0 e.1 (worked n.fuel VERSION cons n (omega arith) enough).follows in
+    subst ArePaired f.nodes (outcome-paired VERSION f.end e.0.outcome)
 
 -- ---- preorder
 -- for each node with at most so much fuel that pays for its size
@@ -52,16 +53,16 @@ joined-preorder k tree pieces p (m ∷ n ∷ []) two less same =
 joined-preorder k tree pieces p (m ∷ n ∷ o ∷ ms) two less same = absurd two
 
 preorder-within : (k : ℕ) (cons : List Polynomial) (n : Node) → n.fuel ≤ k → size_of n ≤ n.fuel
-    → preorder (branches_within k cons n) ≡ tree_within k 1 cons n
+    → preorder (branches_within k cons n) ≡ tree_within k VERSION cons n
 unfolding branches_within tree_within
 preorder-within zero cons n low enough = absurd (let s = size-some n in omega (arith, s))
 preorder-within (suc k) cons n low enough =
-    let w = worked n.fuel 1 cons n (omega arith) enough in
-    let e = expansion_of 1 cons n in
-    joined-preorder k (λ m. branches_within k cons m) (λ m. tree_within k 1 cons m) e.0 e.1 (expansion-paired cons n enough)
+    let w = worked n.fuel VERSION cons n (omega arith) enough in
+    let e = expansion_of VERSION cons n in
+    joined-preorder k (λ m. branches_within k cons m) (λ m. tree_within k VERSION cons m) e.0 e.1 (expansion-paired cons n enough)
     (fit-more n.fuel (suc k) e.1 low w.smaller) (λ m less pays. preorder-within k cons m less pays)
 
-pub branches-preorder : (cons : List Polynomial) (n : Node) → size_of n ≤ n.fuel → preorder (branches_of cons n) ≡ tree_at 1 cons n
+pub branches-preorder : (cons : List Polynomial) (n : Node) → size_of n ≤ n.fuel → preorder (branches_of cons n) ≡ tree_at VERSION cons n
 branches-preorder cons n enough = preorder-within n.fuel cons n (omega arith) enough
 
 -- ---- any number that the fuel does not pass gives the same branches
@@ -84,21 +85,21 @@ unfolding branches_within
 branches-same zero l cons n low high enough = absurd (let s = size-some n in omega (arith, s))
 branches-same (suc k) zero cons n low high enough = absurd (let s = size-some n in omega (arith, s))
 branches-same (suc k) (suc l) cons n low high enough =
-    let w = worked n.fuel 1 cons n (omega arith) enough in
-    let e = expansion_of 1 cons n in
+    let w = worked n.fuel VERSION cons n (omega arith) enough in
+    let e = expansion_of VERSION cons n in
     joined-same k l (λ m. branches_within k cons m) (λ m. branches_within l cons m) e.0 e.1 (expansion-paired cons n enough)
     (fit-more n.fuel (suc k) e.1 low w.smaller) (fit-more n.fuel (suc l) e.1 high w.smaller) (λ m a b c. branches-same k l cons m a b c)
 
 unfolded : (k : ℕ) (cons : List Polynomial) (n : Node)
-    → branches_within (suc k) cons n ≡ joined (λ m. branches_within k cons m) (expansion_of 1 cons n).0 (expansion_of 1 cons n).1
+    → branches_within (suc k) cons n ≡ joined (λ m. branches_within k cons m) (expansion_of VERSION cons n).0 (expansion_of VERSION cons n).1
 unfolding branches_within
 unfolded k cons n = refl
 
 pub branches-unfold : (cons : List Polynomial) (n : Node) → size_of n ≤ n.fuel
-    → branches_of cons n ≡ joined (λ m. branches_of cons m) (expansion_of 1 cons n).0 (expansion_of 1 cons n).1
+    → branches_of cons n ≡ joined (λ m. branches_of cons m) (expansion_of VERSION cons n).0 (expansion_of VERSION cons n).1
 branches-unfold cons n enough =
-    let w = worked n.fuel 1 cons n (omega arith) enough in
-    let e = expansion_of 1 cons n in
+    let w = worked n.fuel VERSION cons n (omega arith) enough in
+    let e = expansion_of VERSION cons n in
     let less : HaveLess (suc n.fuel) e.1 = fit-more n.fuel (suc n.fuel) e.1 (omega arith) w.smaller in
     branches-same n.fuel (suc n.fuel) cons n (omega arith) (omega arith) enough ∙ unfolded n.fuel cons n
     ∙ joined-same n.fuel n.fuel (λ m. branches_within n.fuel cons m) (λ m. branches_of cons m) e.0 e.1 (expansion-paired cons n enough) less less

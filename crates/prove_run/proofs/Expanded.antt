@@ -15,6 +15,7 @@ use Rattle.proof_steps.specs.declared.piece.Outcome.{Outcome}
 use Rattle.proof_steps.specs.declared.piece.Outcome.TheVariants as outcome
 use Rattle.proof_steps.specs.declared.piece.Piece.{Piece}
 use Rattle.proof_steps.specs.declared.step.Attempt.TheVariants as attempt
+use Rattle.proof_steps.specs.declared.version.TheConstants.{VERSION}
 use Rattle.proof_steps.proofs.Following.{none-reason, fits, end-path}
 use Rattle.branch_core.specs.Trees.{Tree}
 use Rattle.tree_laws.proofs.Ranged.{length-more}
@@ -53,14 +54,14 @@ outcome-below version cons n p (outcome.Clash i j) low h = tt
 outcome-below version cons n p (outcome.System chain status) low h = tt
 outcome-below version cons n p (outcome.Open why what) low h = tt
 
-expansion-below : (cons : List Polynomial) (n : Node) → IsWaiting n → AreBelow n.path (expansion_of 1 cons n).1
+expansion-below : (cons : List Polynomial) (n : Node) → IsWaiting n → AreBelow n.path (expansion_of VERSION cons n).1
 expansion-below cons n w =
-    let e = expansion_of 1 cons n in
-    let f = fits 1 cons n e.0 e.1 (worked n.fuel 1 cons n (omega arith) w.ready.pays).follows in
-    let path = end-path 1 cons n e.0 e.1 f in
+    let e = expansion_of VERSION cons n in
+    let f = fits VERSION cons n e.0 e.1 (worked n.fuel VERSION cons n (omega arith) w.ready.pays).follows in
+    let path = end-path VERSION cons n e.0 e.1 f in
     let low : length f.end.path ≤ MOST_LETTERS = subst (λ (q : List Bool). length q ≤ MOST_LETTERS) (sym path) w.letters in
     subst (AreBelow n.path) f.nodes
-    (subst (λ q. AreBelow q (children 1 f.end e.0.outcome)) path (outcome-below 1 cons f.end e.0 e.0.outcome low f.outcome))
+    (subst (λ q. AreBelow q (children VERSION f.end e.0.outcome)) path (outcome-below VERSION cons f.end e.0 e.0.outcome low f.outcome))
 
 -- ---- what the work gives
 abbrev pub AreWaiting : Option (Node × Node) → Type 0
@@ -93,12 +94,12 @@ below-waiting path (Some pair) r b =
       record { ready = r.1.0; letters = omega (arith, minus, two, short) },
     )
 
-pub expanded : (cons : List Polynomial) (n : Node) (p : Piece) (found : Option (Node × Node)) → IsWaiting n → p ≡ (expansion_of 1 cons n).0
-    → nodes_of found ≡ (expansion_of 1 cons n).1 → IsExpanded cons n p found
+pub expanded : (cons : List Polynomial) (n : Node) (p : Piece) (found : Option (Node × Node)) → IsWaiting n → p ≡ (expansion_of VERSION cons n).0
+    → nodes_of found ≡ (expansion_of VERSION cons n).1 → IsExpanded cons n p found
 expanded cons n p found w first others =
-    let e = expansion_of 1 cons n in
-    let k = worked n.fuel 1 cons n (omega arith) w.ready.pays in
-    let ready = subst AreReady (sym others) (children-ready 1 cons n e.0 e.1 w.ready k.follows k.smaller) in
+    let e = expansion_of VERSION cons n in
+    let k = worked n.fuel VERSION cons n (omega arith) w.ready.pays in
+    let ready = subst AreReady (sym others) (children-ready VERSION cons n e.0 e.1 w.ready k.follows k.smaller) in
     let below = subst (AreBelow n.path) (sym others) (expansion-below cons n w) in
     let T : Node → Tree Piece = λ m. branches_of cons m in
     record {
@@ -110,6 +111,6 @@ expanded cons n p found w first others =
 
 -- the same of conclusions and children that are named otherwise
 pub expanded-as : (cons named : List Polynomial) (n : Node) (p : Piece) (got found : Option (Node × Node)) → cons ≡ named → got ≡ found → IsWaiting n
-    → p ≡ (expansion_of 1 cons n).0 → nodes_of got ≡ (expansion_of 1 cons n).1 → IsExpanded named n p found
+    → p ≡ (expansion_of VERSION cons n).0 → nodes_of got ≡ (expansion_of VERSION cons n).1 → IsExpanded named n p found
 expanded-as cons named n p got found same is w first others =
     subst (λ cs. IsExpanded cs n p found) same (subst (IsExpanded cons n p) is (expanded cons n p got w first others))

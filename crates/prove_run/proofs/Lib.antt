@@ -1,3 +1,4 @@
+mod First
 pub mod Posed
 pub mod Lines
 pub mod Told

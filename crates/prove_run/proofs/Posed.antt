@@ -1,14 +1,16 @@
 -- What is known of the polynomials of a problem that a figure states.
-use Rattle.std.proofs.Common.{◌≡◌, ℕ, ◌*◌, ◌/◌, ◌<◌, ◌≤◌, List, [], ◌∷◌, length, arith, true}
+use Rattle.std.proofs.Common.{◌≡◌, ℕ, ◌+◌, ◌*◌, ◌/◌, ◌<◌, ◌≤◌, List, [], ◌∷◌, length, arith, true}
 use Rattle.std.specs.List.{list_all, AllByRecursion}
-use Rattle.std.proofs.lemmas.Bool.{and_parts, leb-true}
+use Rattle.std.proofs.lemmas.Bool.{and_parts}
 use Rattle.std.proofs.lemmas.List.Elements.{All-from_recursion}
 use Rattle.std.proofs.lemmas.Nat.{le-div}
 use Rattle.poly_model.specs.Polynomial.{Polynomial, is_over}
 use Rattle.poly_model.specs.Standard.{is_standard}
-use Rattle.poly_model.specs.declared.limits.TheConstants.{MOST_FUEL}
+use Rattle.poly_model.specs.declared.limits.TheConstants.{MOST_CONCLUSIONS, MOST_FUEL, MOST_HYPOTHESES}
 use Rattle.proof_steps.specs.Rules.{sizes, size_of}
-use Rattle.proof_steps.specs.Stated.{is_brief, IsStated}
+use Rattle.proof_steps.specs.Stated.{IsStated}
+use Rattle.proof_steps.specs.declared.problem.TheConstants.{MOST_CONCLUSION_TERMS, MOST_STATED_TERMS}
+use Rattle.proof_steps.proofs.Stated.{brief-sizes}
 use Rattle.proof_steps.specs.Trees.{root_of}
 use Rattle.proof_steps.specs.declared.problem.Problem.{Problem}
 use Rattle.tree_laws.specs.Ranges.{IsPolynomial, IsProblem}
@@ -20,14 +22,6 @@ polynomials-of n (p ∷ ps) s o =
     let b = and_parts (is_over n p) _ o in
     ((a.0, b.0), polynomials-of n ps a.1 b.1)
 
-brief-sizes : (ps : List Polynomial) → list_all is_brief ps ≡ true → sizes ps ≤ 13 * length ps
-brief-sizes [] h = omega arith
-brief-sizes (p ∷ ps) h =
-    let a = and_parts (is_brief p) _ h in
-    let one : length p ≤ 12 = leb-true (length p) 12 a.0 in
-    let more = brief-sizes ps a.1 in
-    omega (arith, one, more)
-
 pub stated-within : (problem : Problem) → IsStated problem → IsProblem (length problem.vars) problem
 stated-within problem s = record {
   hypotheses = s.few_hyps;
@@ -36,10 +30,11 @@ stated-within problem s = record {
   cons = All-from_recursion (IsPolynomial (length problem.vars)) problem.cons (polynomials-of _ problem.cons s.cons.standard s.cons.own);
 }
 
-pub stated-sizes : (problem : Problem) → IsStated problem → (sizes problem.hyps ≤ 624) × (sizes problem.cons ≤ 26)
+pub stated-sizes : (problem : Problem) → IsStated problem
+    → (sizes problem.hyps ≤ MOST_HYPOTHESES * (1 + MOST_STATED_TERMS)) × (sizes problem.cons ≤ MOST_CONCLUSIONS * (1 + MOST_CONCLUSION_TERMS))
 stated-sizes problem s =
-    let h = brief-sizes problem.hyps s.hyps.brief in
-    let c = brief-sizes problem.cons s.cons.brief in
+    let h = brief-sizes MOST_STATED_TERMS problem.hyps s.hyps.brief in
+    let c = brief-sizes MOST_CONCLUSION_TERMS problem.cons s.cons.brief in
     let few = s.few_hyps in
     let less = s.few_cons in
     (omega (arith, h, few), omega (arith, c, less))

@@ -11,9 +11,9 @@ use Rattle.algebraize.specs.Formed.{equations}
 use Rattle.algebraize.specs.Problem.{problem_of, problems_from, problems_of, proves_in}
 use Rattle.algebraize.proofs.Proves.{counted}
 use Rattle.proof_steps.specs.declared.problem.Problem.{Problem}
-use Rattle.proof_log.specs.declared.limits.TheConstants.{MOST_PROOFS, VERSION}
+use Rattle.proof_log.specs.declared.limits.TheConstants.{MOST_PROOFS}
 use Rattle.prove_run.specs.Logs as logs
-use Rattle.prove_run.specs.Logs.{log_of, log_of_program}
+use Rattle.prove_run.specs.Logs.{log_of, log_of_program, newest}
 
 -- ---- how many problems there are
 one-more : (n : ℕ) (first : Result Equations Refusal) (others : Result (List Equations) Refusal) → ((es : List Equations) → others ≡ Ok es → length es ≡ n)
@@ -46,9 +46,9 @@ again [] = refl
 again (p ∷ ps) = ap (λ l. p ∷ l) (again ps)
 
 pub program-log : (acts : List Act) (problems : List Problem) → problems_of acts ≡ Ok (map equations problems)
-    → log_of_program acts ≡ Ok (log_of VERSION problems)
+    → log_of_program acts ≡ Ok (log_of newest problems)
 program-log acts problems w =
-    ap (λ r. r >>= λ es. Ok (log_of VERSION (map logs.problem_of es))) w ∙ ap (λ ps. Ok (log_of VERSION ps)) (again problems)
+    ap (λ r. r >>= λ es. Ok (log_of newest (map logs.problem_of es))) w ∙ ap (λ ps. Ok (log_of newest ps)) (again problems)
 
 pub program-refused : (acts : List Act) (r : Refusal) → problems_of acts ≡ Err r → log_of_program acts ≡ Err r
-program-refused acts r w = ap (λ q. q >>= λ es. Ok (log_of VERSION (map logs.problem_of es))) w
+program-refused acts r w = ap (λ q. q >>= λ es. Ok (log_of newest (map logs.problem_of es))) w

@@ -1,5 +1,5 @@
 -- The proofs of a program's problems, one after the other, are its log.
-use Rattle.std.proofs.Common.{◌≡◌, ◌<◌, ◌++◌, ◌∷◌, ℕ, zero, suc, Bool, false, List, [], map, length, sym, ◌∙◌, ap, subst, arith, Ok}
+use Rattle.std.proofs.Common.{◌≡◌, ◌<◌, ◌++◌, ◌∷◌, ℕ, zero, suc, Bool, false, List, [], map, length, refl, sym, ◌∙◌, ap, subst, arith, Ok}
 use Rattle.std.specs.Prelude.{All, IsTrue, ◌==◌}
 use Rattle.std.proofs.lemmas.List.{map-append}
 use Rattle.std.proofs.lemmas.List.Elements.{All-push}
@@ -11,10 +11,10 @@ use Rattle.algebraize.specs.Problem.{problems_of}
 use Rattle.proof_steps.specs.Stated.{IsStated}
 use Rattle.proof_steps.specs.declared.problem.Problem.{Problem}
 use Rattle.proof_log.specs.Accepted.{IsAccepted}
-use Rattle.proof_log.specs.declared.limits.TheConstants.{VERSION}
+use Rattle.proof_steps.specs.declared.version.TheConstants.{VERSION}
 use Rattle.proof_log.specs.declared.log.Proof.{Proof}
-use Rattle.prove_run.specs.Logs.{proof_of, log_of, log_of_program}
-use Rattle.prove_run.specs.Whole.{IsPosed, IsWhole}
+use Rattle.prove_run.specs.Logs.{proof_of, log_of, log_of_program, newest}
+use Rattle.prove_run.specs.Whole.{IsPosed, IsKnown, IsWhole}
 use Rattle.prove_run.proofs.Logs.{log-length, logs-accepted}
 use Rattle.prove_run.proofs.Program.{few-problems, program-log}
 use Rattle.prove_run.proofs.Written.{accepted-whole}
@@ -48,24 +48,27 @@ one-more fuel problems proofs after problem proof so_far grown stated made vars 
     }
 
 -- ---- the log
+pub newest-known : IsKnown newest
+newest-known = record { some = omega arith; newest = omega arith; some_fuel = omega arith; most_fuel = omega arith; stated = λ e. refl }
+
 pub record IsLogOf (program : Program) (proofs : List Proof) : Type 0 where
   pub log : log_of_program program.acts ≡ Ok proofs
-  pub accepted : IsAccepted VERSION proofs
-  pub whole : IsWhole VERSION proofs
+  pub accepted : IsAccepted newest proofs
+  pub whole : IsWhole newest proofs
 
 pub log-told : (program : Program) → IsSound program → (problems : List Problem) → problems_of program.acts ≡ Ok (map equations problems)
-    → All IsStated problems → (proofs result : List Proof) → result ≡ proofs → proofs ≡ log_of VERSION problems
+    → All IsStated problems → (proofs result : List Proof) → result ≡ proofs → proofs ≡ log_of newest problems
     → All (λ (p : Proof). IsPosed p.problem) proofs → IsLogOf program result
 log-told program sound problems value stated proofs result is made posed =
     let few = few-problems program sound problems value in
-    let n = log-length VERSION problems in
-    let same : result ≡ log_of VERSION problems = is ∙ made in
+    let n = log-length newest problems in
+    let same : result ≡ log_of newest problems = is ∙ made in
     let k = ap (λ (l : List Proof). length l) same in
-    let accepted : IsAccepted VERSION result = subst (IsAccepted VERSION) (sym same) (logs-accepted VERSION problems few stated) in
+    let accepted : IsAccepted newest result = subst (IsAccepted newest) (sym same) (logs-accepted VERSION problems few stated) in
     let IsPosedOf : Proof → Type 0 = λ p. IsPosed p.problem in
     record {
       log = program-log program.acts problems value ∙ ap Ok (sym same);
       accepted = accepted;
       whole =
-          accepted-whole VERSION result (omega arith) (omega arith) (omega (arith, n, k, few)) (subst (All IsPosedOf) (sym is) posed) accepted;
+          accepted-whole newest result newest-known (omega (arith, n, k, few)) (subst (All IsPosedOf) (sym is) posed) accepted;
     }

@@ -1,10 +1,9 @@
 -- Accepted logs of posed problems can be written, and their texts are short.
-use Rattle.std.proofs.Common.{◌≡◌, ℕ, ◌+◌, ◌/◌, ◌<◌, ◌≤◌, suc, List, [], ◌∷◌, ◌++◌, map, length, refl, sym, ◌∙◌, subst, arith, append_assoc, true, false}
+use Rattle.std.proofs.Common.{◌≡◌, ℕ, ◌+◌, ◌<◌, ◌≤◌, suc, List, [], ◌∷◌, ◌++◌, map, length, refl, sym, ◌∙◌, subst, arith, append_assoc, Bool, true, false, ◌⊎◌, inl, inr}
 use Rattle.std.specs.List.{flat_map, AllByRecursion}
 use Rattle.std.proofs.lemmas.Bool.{and_parts}
 use Rattle.std.proofs.lemmas.List.Elements.{All-from_recursion, recursion_from_All}
 use Rattle.poly_model.specs.Polynomial.{Polynomial}
-use Rattle.poly_model.specs.declared.limits.TheConstants.{MOST_FUEL}
 use Rattle.poly_model.specs.declared.vars.VarName.{VarName}
 use Rattle.proof_steps.specs.Left.{left_by, IsTold, TellsWhatIsLeft}
 use Rattle.proof_steps.specs.Numbers.{item, replaced}
@@ -18,17 +17,22 @@ use Rattle.proof_steps.specs.declared.problem.Problem.{Problem}
 use Rattle.tree_laws.specs.Ranges.{IsPiece}
 use Rattle.tree_laws.proofs.Left.{trees-tell}
 use Rattle.tree_laws.proofs.Ranged.{trees-within}
+use Rattle.proof_steps.specs.Rules.{has_second}
 use Rattle.proof_log.specs.Accepted.{IsAcceptedProof, AreAccepted}
+use Rattle.proof_log.specs.Grammar.{AreProofs}
+use Rattle.proof_log.specs.Headings.{Heading, fuel_lines, share_of}
 use Rattle.proof_log.specs.Lines.{piece_lines, proof_lines, proofs_lines, log_lines, left_from, OutcomeWritten, PiecesWritten, LogWritten}
 use Rattle.proof_log.specs.Text.{FitsVerdict, AreLines}
-use Rattle.proof_log.specs.declared.limits.TheConstants.{MOST_PROOFS, VERSION}
+use Rattle.proof_log.specs.declared.limits.TheConstants.{MOST_PROOFS}
 use Rattle.proof_log.specs.declared.line.LogLine.{LogLine}
 use Rattle.proof_log.specs.declared.line.LogLine.TheVariants as line
 use Rattle.proof_log.specs.declared.log.Proof.{Proof}
+use Rattle.proof_log.proofs.Settled.{AreFirst, log-settled}
 use Rattle.proof_log.proofs.Short.{lines-short}
 use Rattle.log_length.specs.Short.{HaveFewTerms}
 use Rattle.log_length.proofs.Whole.{log-short}
-use Rattle.prove_run.specs.Whole.{IsPosed, HasCounts, AcceptedIsWhole}
+use Rattle.prove_run.specs.Whole.{IsPosed, IsKnown, HasCounts, AcceptedIsWhole}
+use Rattle.prove_run.proofs.First.{head-first, proofs-first}
 use Rattle.prove_run.proofs.Posed.{stated-within, stated-sizes}
 use Rattle.prove_run.proofs.Lines.{AreOver, over-append, over-lines, polynomials-over, pieces-over}
 use Rattle.prove_run.proofs.Told.{verdict-fits}
@@ -123,22 +127,48 @@ counts version fuel (p ∷ ps) w a = (
   counts version fuel ps w.1 a.1,
 )
 
-log-lines : (version : ℕ) (log : List Proof) → 0 < version → version ≤ VERSION → length log ≤ MOST_PROOFS → ArePosed log
-    → AreAccepted version (MOST_FUEL / length log) log → AreLines [] (log_lines version log)
+log-lines : (h : Heading) (log : List Proof) → IsKnown h → length log ≤ MOST_PROOFS → ArePosed log
+    → AreAccepted h.version (share_of h.fuel (length log)) log → AreLines [] (log_lines h log)
 unfolding AreLines
-log-lines version log some newest few w a =
-    ((((omega (arith, some), newest), tt), tt), (((few, tt), tt), proofs-written [] version (MOST_FUEL / length log) 1 log (omega (arith, few)) w a))
+log-lines h log known few w a =
+    let some = known.some in
+    ((((omega (arith, some), known.newest), tt), tt), by (has_second h.version))
+  where
+    behind : AreLines [] (line.Proves (length log) ∷ (proofs_lines 1 log ++ line.End ∷ []))
+    behind = (((few, tt), tt), proofs-written [] h.version (share_of h.fuel (length log)) 1 log (omega (arith, few)) w a)
+
+    by : (b : Bool) → AreLines [] (fuel_lines b h.fuel ++ (line.Proves (length log) ∷ (proofs_lines 1 log ++ line.End ∷ [])))
+    by true = let some = known.some_fuel in ((((omega (arith, some), known.most_fuel), tt), tt), behind)
+    by false = behind
+
+pub are-proofs : (log : List Proof) → AllByRecursion HasCounts log → AreProofs log
+unfolding AreProofs
+are-proofs [] h = tt
+are-proofs (p ∷ ps) h =
+    let c = h.0 in
+    (record { hyps = c.hypotheses; one = omega (arith, c.some_conclusion); two = c.conclusions }, omega (arith, c.some_piece), are-proofs ps h.1)
+
+-- each line is one of the version: all but those of the second stand in the first
+log-versioned : (h : Heading) (log : List Proof) → (has_second h.version ≡ true) ⊎ AreFirst (log_lines h log)
+log-versioned h log = by (has_second h.version)
+  where
+    by : (b : Bool) → (b ≡ true) ⊎ AreFirst (line.Head h.version ∷ (fuel_lines b h.fuel ++ (line.Proves (length log) ∷ (proofs_lines 1 log ++ line.End ∷ []))))
+    by true = inl refl
+    by false = inr (head-first h.version (length log) (proofs_lines 1 log ++ line.End ∷ []) (proofs-first 1 log))
 
 pub accepted-whole : AcceptedIsWhole
-accepted-whole version log some newest few posed a =
+accepted-whole h log known few posed a =
     let w = recursion_from_All (λ (p : Proof). IsPosed p.problem) log posed in
-    let lines = log-lines version log some newest few w a in
-    let all = log-short version log a few (few-terms log w) in
-    let short = lines-short [] (log_lines version log) refl lines in
+    let fuel = share_of h.fuel (length log) in
+    let lines = log-lines h log known few w a in
+    let all = log-short h log known.most_fuel a few (few-terms log w) in
+    let short = lines-short [] (log_lines h log) refl lines in
+    let counted = counts h.version fuel log w a in
     record {
       proofs = few;
-      counts = All-from_recursion HasCounts log (counts version (MOST_FUEL / length log) log w a);
-      written = log-written version (MOST_FUEL / length log) log a;
+      counts = All-from_recursion HasCounts log counted;
+      written = log-written h.version fuel log a;
       lines = lines;
+      own = log-settled h log (are-proofs log counted) lines (log-versioned h log);
       bytes = omega (arith, all, short);
     }

@@ -4,7 +4,7 @@ use Rattle.poly_model.specs.Polynomial.{Polynomial}
 use Rattle.proof_steps.specs.Trees.{expansion_of}
 use Rattle.proof_steps.specs.declared.piece.Node.{Node}
 use Rattle.proof_steps.specs.declared.piece.Piece.{Piece}
-use Rattle.proof_log.specs.declared.limits.TheConstants.{VERSION}
+use Rattle.proof_steps.specs.declared.version.TheConstants.{VERSION}
 use Rattle.branch_core.specs.Trees.{Tree, Leaf, Fork}
 
 -- A piece with the trees of its children, which are none or two.

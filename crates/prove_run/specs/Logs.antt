@@ -1,11 +1,12 @@
 -- The log of problems, and of a program.
-use Rattle.std.specs.Prelude.{ℕ, ◌/◌, List, map, length, Result, Ok}
+use Rattle.std.specs.Prelude.{ℕ, List, map, length, Result, Ok}
 use Rattle.poly_model.specs.declared.limits.TheConstants.{MOST_FUEL}
 use Rattle.proof_steps.specs.Trees.{tree_of}
 use Rattle.proof_steps.specs.declared.piece.Piece.{Piece}
 use Rattle.proof_steps.specs.declared.problem.Problem.{Problem}
 use Rattle.verdicts.specs.Verdicts.{verdict_of}
-use Rattle.proof_log.specs.declared.limits.TheConstants.{VERSION}
+use Rattle.proof_steps.specs.declared.version.TheConstants.{VERSION}
+use Rattle.proof_log.specs.Headings.{Heading, heading, share_of}
 use Rattle.proof_log.specs.declared.log.Proof.{Proof}
 use Rattle.gcl_reader.specs.Grammar.{◌>>=◌}
 use Rattle.gcl_reader.specs.declared.refusal.Refusal.{Refusal}
@@ -21,9 +22,13 @@ proof_with problem pieces = record { problem = problem; tree = record { pieces =
 abbrev pub proof_of : (version fuel : ℕ) → Problem → Proof
 proof_of version fuel problem = proof_with problem (tree_of version problem fuel)
 
+-- What the log of a program states: the newest version, and the most fuel.
+abbrev pub newest : Heading
+newest = heading VERSION MOST_FUEL
+
 -- The log of problems: each proof has an equal share of the fuel.
-abbrev pub log_of : (version : ℕ) → List Problem → List Proof
-log_of version problems = map (proof_of version (MOST_FUEL / length problems)) problems
+abbrev pub log_of : Heading → List Problem → List Proof
+log_of h problems = map (proof_of h.version (share_of h.fuel (length problems))) problems
 
 -- The problem of the equations of a prove.
 abbrev pub problem_of : Equations → Problem
@@ -33,4 +38,4 @@ problem_of e = record { vars = e.variables; hyps = e.hypotheses; cons = e.conclu
 abbrev pub log_of_program : List Act → Result (List Proof) Refusal
 log_of_program acts = do
   equations ← problems_of acts
-  Ok (log_of VERSION (map problem_of equations))
+  Ok (log_of newest (map problem_of equations))

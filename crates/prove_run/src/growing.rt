@@ -1,7 +1,7 @@
 ghost use Rattle.std.specs.Prelude.{◌≡◌, ◌<◌, ◌≤◌, ◌++◌, ◌∷◌, [], true, cond, IfOk, OnOk, length, is_some};
 ghost use Rattle.poly_model.specs.declared.limits.TheConstants.{EXPAND_UNITS, MOST_CONCLUSIONS, MOST_LETTERS};
 ghost use Rattle.proof_steps.specs.Trees.{tree_at};
-ghost use Rattle.proof_log.specs.declared.limits.TheConstants.{VERSION};
+ghost use Rattle.proof_steps.specs.declared.version.TheConstants.{VERSION};
 ghost use Rattle.term_store.specs.Changes.{Keeps};
 ghost use Rattle.branch_core.specs.declared.event.Event.TheVariants as event;
 ghost use Rattle.branch_pool.specs.Children.{piled};

@@ -4,11 +4,13 @@ ghost use Rattle.gcl_reader.specs.Grammar.{Gives};
 ghost use Rattle.poly_model.specs.Names.{are_variables};
 ghost use Rattle.poly_model.specs.declared.limits.TheConstants.{MOST_FUEL};
 ghost use Rattle.proof_log.specs.Accepted.{IsAccepted};
-ghost use Rattle.proof_log.specs.declared.limits.TheConstants.{MOST_PROOFS, VERSION};
+ghost use Rattle.proof_log.specs.Headings.{heading_of};
+ghost use Rattle.proof_log.specs.declared.limits.TheConstants.{MOST_PROOFS};
+ghost use Rattle.proof_steps.specs.declared.version.TheConstants.{VERSION};
 ghost use Rattle.proof_steps.specs.Rules.{size_of};
 ghost use Rattle.proof_steps.specs.Stated.{IsStated};
 ghost use Rattle.proof_steps.specs.Trees.{root_of};
-ghost use Rattle.prove_run.specs.Logs.{log_of, log_of_program, proof_of};
+ghost use Rattle.prove_run.specs.Logs.{log_of, log_of_program, newest, proof_of};
 ghost use Rattle.prove_run.specs.Whole.{IsPosed, IsWhole};
 ghost use Rattle.prove_run.specs.declared.many.TheConstants.{MOST_WORKERS};
 
@@ -20,7 +22,7 @@ use gcl_names::Program;
 use gcl_reader::GclFault;
 use poly_model::{MOST_FUEL, Row};
 use proof_log::{Log, Proof};
-use proof_steps::Problem;
+use proof_steps::{Problem, VERSION};
 use std::alloc::{AllocError, Global};
 use std::sync::Wait;
 use std::thread::Threads;
@@ -60,7 +62,7 @@ fn prove_all<G: Gate + Sync, R: Threads + Wait + Sync>(
     requires few { length problems.items ≤ MOST_PROOFS }
     requires stated { All IsStated problems.items }
     requires workers { 1 ≤ workers }
-    ensures log { IfOk result (λ v. v.items ≡ log_of VERSION problems.items) }
+    ensures log { IfOk result (λ v. v.items ≡ log_of newest problems.items) }
     ensures posed { IfOk result (λ v. All (λ p. IsPosed p.problem) v.items) }
 {
     let mut proofs = Vec::new(alloc);
@@ -88,11 +90,14 @@ pub fn prove_many<G: Gate + Sync, R: Threads + Wait + Sync>(
     requires sound { IsSound program.now }
     requires workers { (1 ≤ workers) × (workers ≤ MOST_WORKERS) }
     ensures log { Gives (λ log. log.proofs) result (log_of_program program.now.acts) }
-    ensures accepted { IfOk result (λ log. IsAccepted VERSION log.proofs) }
-    ensures whole { IfOk result (λ log. IsWhole VERSION log.proofs) }
+    ensures heading { IfOk result (λ log. heading_of log ≡ newest) }
+    ensures accepted { IfOk result (λ log. IsAccepted newest log.proofs) }
+    ensures whole { IfOk result (λ log. IsWhole newest log.proofs) }
 {
     let proofs = prove_all(rt, alloc, problems(alloc, program)?, workers, gate)?;
     Ok(Log {
+        version: VERSION,
+        fuel: MOST_FUEL,
         proofs: Row::from_vec(proofs),
     })
 }

@@ -4,12 +4,14 @@ ghost use Rattle.gcl_reader.specs.Grammar.{Gives};
 ghost use Rattle.poly_model.specs.Names.{are_variables};
 ghost use Rattle.poly_model.specs.declared.limits.TheConstants.{EXPAND_UNITS, MOST_FUEL};
 ghost use Rattle.proof_log.specs.Accepted.{IsAccepted};
-ghost use Rattle.proof_log.specs.declared.limits.TheConstants.{MOST_PROOFS, VERSION};
+ghost use Rattle.proof_log.specs.Headings.{heading_of};
+ghost use Rattle.proof_log.specs.declared.limits.TheConstants.{MOST_PROOFS};
+ghost use Rattle.proof_steps.specs.declared.version.TheConstants.{VERSION};
 ghost use Rattle.proof_steps.specs.Rules.{size_of};
 ghost use Rattle.proof_steps.specs.Stated.{IsStated};
 ghost use Rattle.proof_steps.specs.Trees.{root_of};
 ghost use Rattle.term_store.specs.Changes.{Keeps};
-ghost use Rattle.prove_run.specs.Logs.{log_of, log_of_program, proof_of, proof_with};
+ghost use Rattle.prove_run.specs.Logs.{log_of, log_of_program, newest, proof_of, proof_with};
 ghost use Rattle.prove_run.specs.Whole.{IsPosed, IsWhole};
 
 use crate::growing::grow;
@@ -18,7 +20,7 @@ use gcl_names::Program;
 use gcl_reader::GclFault;
 use poly_model::{EXPAND_UNITS, MOST_FUEL, OwnedPoly, Row};
 use proof_log::{Log, Proof};
-use proof_steps::{Node, Path, Piece, Problem, Tree};
+use proof_steps::{Node, Path, Piece, Problem, Tree, VERSION};
 use std::alloc::{AllocError, Global};
 use term_region::TermRegion;
 use term_store::TermStore;
@@ -86,7 +88,7 @@ fn prove<S: TermStore>(
 fn prove_all(alloc: Global, problems: Vec<Problem>) -> Result<Vec<Proof>, AllocError>
     requires few { length problems.items ≤ MOST_PROOFS }
     requires stated { All IsStated problems.items }
-    ensures log { IfOk result (λ v. v.items ≡ log_of VERSION problems.items) }
+    ensures log { IfOk result (λ v. v.items ≡ log_of newest problems.items) }
     ensures posed { IfOk result (λ v. All (λ p. IsPosed p.problem) v.items) }
 {
     let mut proofs = Vec::new(alloc);
@@ -108,11 +110,14 @@ fn prove_all(alloc: Global, problems: Vec<Problem>) -> Result<Vec<Proof>, AllocE
 pub fn prove_one(alloc: Global, program: &Program) -> Result<Log, GclFault>
     requires { IsSound program.now }
     ensures log { Gives (λ log. log.proofs) result (log_of_program program.now.acts) }
-    ensures accepted { IfOk result (λ log. IsAccepted VERSION log.proofs) }
-    ensures whole { IfOk result (λ log. IsWhole VERSION log.proofs) }
+    ensures heading { IfOk result (λ log. heading_of log ≡ newest) }
+    ensures accepted { IfOk result (λ log. IsAccepted newest log.proofs) }
+    ensures whole { IfOk result (λ log. IsWhole newest log.proofs) }
 {
     let proofs = prove_all(alloc, problems(alloc, program)?)?;
     Ok(Log {
+        version: VERSION,
+        fuel: MOST_FUEL,
         proofs: Row::from_vec(proofs),
     })
 }

@@ -1,7 +1,7 @@
 ghost use Rattle.std.specs.Prelude.{◌≡◌, ◌≤◌, [], IfOk, length};
 ghost use Rattle.poly_model.specs.declared.limits.TheConstants.{MOST_CONCLUSIONS};
 ghost use Rattle.proof_steps.specs.Trees.{tree_at};
-ghost use Rattle.proof_log.specs.declared.limits.TheConstants.{VERSION};
+ghost use Rattle.proof_steps.specs.declared.version.TheConstants.{VERSION};
 ghost use Rattle.prove_run.specs.Ready.{IsReady};
 
 use crate::room::Room;

@@ -1,7 +1,8 @@
 // A statement proved by two workers in four runs, in each of which a gate holds one branch of one worker while the other goes on.
 ghost use Rattle.std.specs.Prelude.{IfOk};
 ghost use Rattle.gcl_names.specs.Sound.{IsSound};
-ghost use Rattle.proof_log.specs.declared.limits.TheConstants.{VERSION};
+ghost use Rattle.proof_log.specs.Headings.{heading_of};
+ghost use Rattle.prove_run.specs.Logs.{newest};
 ghost use Rattle.prove_run.specs.Whole.{IsWhole};
 
 use crate::hold::{Hold, Until};
@@ -42,7 +43,8 @@ fn paths_of(alloc: Global, log: &Log) -> Result<Vec<Path>> {
 
 // The text of a log.
 fn text_of(alloc: Global, log: &Log) -> Result<Vec<u8>>
-    requires { IsWhole VERSION log.now.proofs }
+    requires heading { heading_of log.now ≡ newest }
+    requires whole { IsWhole newest log.now.proofs }
 {
     let mut sink = MemSink::new(alloc, 1_000_000, Vec::new(alloc))?;
     let mut pen = Pen::open(alloc)?;

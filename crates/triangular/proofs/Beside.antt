@@ -25,16 +25,14 @@ use Rattle.workbench.specs.declared.bench.Held.{Held}
 use Rattle.workbench.proofs.Owning as owning
 use Rattle.workbench.proofs.Benches as benches
 use Rattle.workbench.proofs.Choice as choice
+use Rattle.workbench.proofs.Opened.{held-eqs}
+use Rattle.workbench.proofs.Validity.{found-live}
 use Rattle.proof_steps.specs.Classes.{HaveOwnClasses}
-use Rattle.triangular.specs.Reducers.{reducing_in, first_in}
+use Rattle.triangular.specs.Reducers.{IsDivisor, reducing_in, first_in}
 use Rattle.triangular.proofs.Reducing as reducing
 use Rattle.proof_steps.proofs.Reducing as equations
 use Rattle.proof_steps.proofs.Reducing.{Reducer}
 use Rattle.triangular.proofs.Chained.{met-is}
-
-found-live : (s : State) (hs : List Held) → AreFound s hs → AllLive s (map held_slot hs)
-found-live s [] f = tt
-found-live s (h ∷ hs) f = (f.0.live, found-live s hs f.1)
 
 found-at : (s : State) (hs : List Held) (i : ℕ) (h : Held) → i < length hs → h ≡ get_or hs i h → AreFound s hs → IsPoly s h.poly
 found-at s [] i h below at f = absurd (omega arith)
@@ -49,13 +47,13 @@ pub record Placed (hs : List Held) (E : List Polynomial) (R : Polynomial) (x f :
   pub first : f ≡ first_of_class E (suc (x - 1))
   pub reducer : Reducer E R (x - 1) f
 
-pub placed : (s : State) (hs : List Held) (R : Polynomial) (x f : ℕ) → AllTell [] hs (map (held_at s) hs) → HaveOwnClasses (map (held_at s) hs) → x ≡ reducing_in R hs → x ≢ 0 → f ≡ first_in hs x
+pub placed : (s : State) (N : List Polynomial) (hs : List Held) (R : Polynomial) (x f : ℕ) → AllTell N hs (map (held_at s) hs) → HaveOwnClasses (map (held_at s) hs) → x ≡ reducing_in R hs → x ≢ 0 → f ≡ first_in hs x
     → Placed hs (map (held_at s) hs) R x f
-placed s hs R x f t own xi some fi =
+placed s N hs R x f t own xi some fi =
     let E = map (held_at s) hs in
     let up : x ≡ suc (x - 1) = omega (arith, some) in
-    let class : reducing_class E R ≡ suc (x - 1) = sym (reducing.reducing-tied [] R hs E t) ∙ sym xi ∙ up in
-    let first : f ≡ first_of_class E (suc (x - 1)) = fi ∙ sym (reducing.first-tied (held_at s) [] hs x t) ∙ ap (first_of_class E) up in
+    let class : reducing_class E R ≡ suc (x - 1) = sym (reducing.reducing-tied N R hs E t) ∙ sym xi ∙ up in
+    let first : f ≡ first_of_class E (suc (x - 1)) = fi ∙ sym (reducing.first-tied (held_at s) N hs x t) ∙ ap (first_of_class E) up in
     let r = subst (Reducer E R (x - 1)) (sym first) (equations.reducer E R (x - 1) own class) in
     let l : length (map (held_at s) hs) ≡ length hs = length-map hs (held_at s) in
     record {
@@ -107,10 +105,6 @@ pub record Kept (b : State) (hs : List Held) (E : List Polynomial) : Type 0 wher
   pub tell : AllTell [] hs (map (held_at b) hs)
   pub same : map (held_at b) hs ≡ E
 
-pub held-eqs : (s : State) (hs : List Held) → map (held_at s) hs ≡ map (polynomial_at s) (map poly_of hs)
-held-eqs s [] = refl
-held-eqs s (h ∷ hs) = ap (λ l. held_at s h ∷ l) (held-eqs s hs)
-
 found-of : (s : State) (hs : List Held) → AreHeld s (map poly_of hs) → AreFound s hs
 found-of s [] h = tt
 found-of s (x ∷ hs) h = (record { live = h.live.0; standard = h.standard.0 }, found-of s hs record { live = h.live.1; standard = h.standard.1 })
@@ -123,4 +117,27 @@ kept s b hs eqs k polys t h =
       found = choice.found-within s b hs (owning.within-keeps s b k) found;
       tell = subst (AllTell [] hs) same t;
       same = sym same ∙ held-eqs s hs ∙ ap (map (polynomial_at s)) polys;
+    }
+
+-- the equation that the code finds
+pub reducer : (s : State) (N : List Polynomial) (hs : List Held) (R : Polynomial) (x f : ℕ) (h : Held) → AreFound s hs → AllTell N hs (map (held_at s) hs) → HaveOwnClasses (map (held_at s) hs)
+    → x ≡ reducing_in R hs → x ≢ 0 → f ≡ first_in hs x → h ≡ get_or hs (f - 1) h → IsDivisor s hs R record { f = f; by = h }
+reducer s N hs R x f h found t own xi some fi at =
+    let E = map (held_at s) hs in
+    let p = placed s N hs R x f t own xi some fi in
+    let below = p.below in
+    let here : item E f ≡ held_at s h = sym (benches.equation-at s hs (f - 1) h below at) in
+    let class : h.class ≡ x =
+    ap (λ y. y.class) at ∙ (benches.tell-at N hs E (f - 1) h below t).class ∙ p.reducer.class ∙ (let z : suc (x - 1) ≡ x = omega (arith, some) in z) in
+    let up : suc (x - 1) ≡ suc (h.class - 1) = omega (arith, class) in
+    record {
+      low = p.low;
+      below = below;
+      some = omega (arith, class, some);
+      due = p.reducing ∙ up;
+      first = p.first ∙ ap (first_of_class E) up;
+      here = here;
+      class = ap class_of (sym here) ∙ p.reducer.class ∙ up;
+      reached = ap (reaches R) (sym here) ∙ p.reducer.reached;
+      poly = found-at s hs (f - 1) h below at found;
     }

@@ -6,4 +6,5 @@ mod reducer;
 mod system;
 
 pub use chain::reduce_conclusions;
+pub use reducer::{Divisor, divisor_of};
 pub use system::is_triangular;

@@ -1,11 +1,22 @@
 // The equation that reduces a polynomial.
-ghost use Rattle.std.specs.Prelude.{◌≡◌, ◌≤◌, ◌<◌, ◌^◌, ◌-◌, get_or, length};
+ghost use Rattle.std.specs.Prelude.{◌≡◌, ◌≤◌, ◌<◌, ◌^◌, ◌-◌, ℕ, List, map, get_or, length, IfNone, IfSome};
+ghost use Rattle.poly_model.specs.Polynomial.{Polynomial};
+ghost use Rattle.proof_steps.specs.Chain.{reducing_class as class_due};
+ghost use Rattle.proof_steps.specs.Classes.{HaveOwnClasses};
+ghost use Rattle.workbench.specs.Standing.{AllTell, AreFound, held_at};
 ghost use Rattle.polynomials.specs.Held.{IsPoly, polynomial_at};
-ghost use Rattle.triangular.specs.Reducers.{AreWithin, reducing_in, first_in};
+ghost use Rattle.triangular.specs.Reducers.{AreWithin, IsDivisor, reducing_in, first_in};
 
 use polynomials::{Poly, degree};
 use term_store::TermStore;
 use workbench::Held;
+
+/// The equation that reduces a polynomial, and its number.
+#[derive(Clone, Copy, Debug)]
+pub struct Divisor {
+    pub f: usize,
+    pub by: Held,
+}
 
 /// The greatest class of an equation whose degree the polynomial reaches, and 0 where there is
 /// none.
@@ -27,7 +38,7 @@ pub fn reducing_class<S: TermStore>(s: &S, hs: &[Held], p: Poly) -> u8
 
 /// The number of the first equation of a class, and 0 where there is none.
 pub fn first_of_class(hs: &[Held], x: u8) -> usize
-    requires { length hs.now < 2 ^ 16 }
+    requires { length hs.now < 2 ^ 32 }
     ensures place { result ≡ first_in hs.now x }
     ensures within { result ≤ length hs.now }
 {
@@ -50,4 +61,27 @@ pub fn equation(hs: &[Held], f: usize) -> Held
     ensures { result ≡ get_or hs.now (f - 1) result }
 {
     hs[f - 1]
+}
+
+/// The equation of a system that reduces the polynomial, if one does: that of the greatest class whose degree it reaches.
+pub fn divisor_of<S: TermStore>(s: &S, hs: &[Held], p: Poly) -> Option<Divisor>
+    requires found { AreFound (S.state s.now) hs.now }
+    requires tell { (N : List Polynomial) × AllTell N hs.now (map (held_at (S.state s.now)) hs.now) }
+    requires own { HaveOwnClasses (map (held_at (S.state s.now)) hs.now) }
+    requires few { length hs.now < 2 ^ 32 }
+    requires p { IsPoly (S.state s.now) p }
+    ensures none { IfNone result (class_due (map (held_at (S.state s.now)) hs.now)
+        (polynomial_at (S.state s.now) p) ≡ 0) }
+    ensures some { IfSome result (λ r. IsDivisor (S.state s.now) hs.now
+        (polynomial_at (S.state s.now) p) r) }
+{
+    let x = reducing_class(s, hs, p);
+    if x == 0 {
+        return None;
+    }
+    let f = first_of_class(hs, x);
+    Some(Divisor {
+        f,
+        by: equation(hs, f),
+    })
 }

@@ -26,6 +26,7 @@ use Rattle.proof_steps.specs.Classes.{HaveOwnClasses}
 use Rattle.proof_steps.proofs.Reducing.{own-classes}
 use Rattle.tree_laws.proofs.Unfold.{prefixed, more, expansion-is}
 use Rattle.wang_split.specs.Expanded.{Rests, nodes_of}
+use Rattle.proof_steps.specs.declared.version.TheConstants.{VERSION}
 
 -- a piece that lists something, after steps
 after-none : (here : Node) (steps : List Step) (o : Outcome) (E N : List Polynomial) (p : Piece) → p ≡ record { path = here.path; steps = steps; eqs = E; nes = N; outcome = o }
@@ -34,41 +35,41 @@ after-none here steps o E N p e = e ∙ (λ i. record { path = here.path; steps 
 
 -- what an expansion is, and a piece that is its piece
 rests : (cons : List Polynomial) (here : Node) (steps : List Step) (o : Outcome) (E N : List Polynomial) (ms : List Node) (p : Piece) (c : Option (Node × Node))
-    → expansion_of 1 cons here ≡ (record { path = here.path; steps = []; eqs = E; nes = N; outcome = o }, ms)
+    → expansion_of VERSION cons here ≡ (record { path = here.path; steps = []; eqs = E; nes = N; outcome = o }, ms)
     → p ≡ record { path = here.path; steps = steps; eqs = E; nes = N; outcome = o } → nodes_of c ≡ ms → Rests cons here steps (p, c)
 rests cons here steps o E N ms p c x e m =
     (after-none here steps o E N p e ∙ ap (λ (t : Piece × List Node). prefixed steps t.0) (sym x), m ∙ ap (λ (t : Piece × List Node). t.1) (sym x))
 
-due-is : (cons : List Polynomial) (here : Node) (x : Next) → size_of here ≤ here.fuel → x ≡ work.next 1 here → expansion_of 1 cons here ≡ expansion_by (more 1 cons) 1 cons here x
-due-is cons here x enough q = expansion-is 1 cons here enough ∙ ap (expansion_by (more 1 cons) 1 cons here) (sym q)
+due-is : (cons : List Polynomial) (here : Node) (x : Next) → size_of here ≤ here.fuel → x ≡ work.next VERSION here → expansion_of VERSION cons here ≡ expansion_by (more VERSION cons) VERSION cons here x
+due-is cons here x enough q = expansion-is VERSION cons here enough ∙ ap (expansion_by (more VERSION cons) VERSION cons here) (sym q)
 
-pub closed : (cons : List Polynomial) (here : Node) (steps : List Step) (i : ℕ) (p : Piece) → size_of here ≤ here.fuel → work.Closed i ≡ work.next 1 here
+pub closed : (cons : List Polynomial) (here : Node) (steps : List Step) (i : ℕ) (p : Piece) → size_of here ≤ here.fuel → work.Closed i ≡ work.next VERSION here
     → p ≡ record { path = here.path; steps = steps; eqs = []; nes = []; outcome = outcome.Close i } → Rests cons here steps (p, None)
 closed cons here steps i p enough q e = rests cons here steps (outcome.Close i) [] [] [] p None (due-is cons here (work.Closed i) enough q) e refl
 
-pub clashed : (cons : List Polynomial) (here : Node) (steps : List Step) (i j : ℕ) (p : Piece) → size_of here ≤ here.fuel → work.Clashed i j ≡ work.next 1 here
+pub clashed : (cons : List Polynomial) (here : Node) (steps : List Step) (i j : ℕ) (p : Piece) → size_of here ≤ here.fuel → work.Clashed i j ≡ work.next VERSION here
     → p ≡ record { path = here.path; steps = steps; eqs = []; nes = []; outcome = outcome.Clash i j } → Rests cons here steps (p, None)
 clashed cons here steps i j p enough q e = rests cons here steps (outcome.Clash i j) [] [] [] p None (due-is cons here (work.Clashed i j) enough q) e refl
 
-pub solved : (cons : List Polynomial) (here : Node) (steps : List Step) (chain : List ChainStep) (status : LeafStatus) (p : Piece) → size_of here ≤ here.fuel → work.Solved ≡ work.next 1 here
+pub solved : (cons : List Polynomial) (here : Node) (steps : List Step) (chain : List ChainStep) (status : LeafStatus) (p : Piece) → size_of here ≤ here.fuel → work.Solved ≡ work.next VERSION here
     → (chain, status) ≡ chain_of here.eqs cons (here.fuel - size_of here)
     → p ≡ record { path = here.path; steps = steps; eqs = here.eqs; nes = here.nes; outcome = outcome.System chain status } → Rests cons here steps (p, None)
 solved cons here steps chain status p enough q c e =
     rests cons here steps (outcome.System chain status) here.eqs here.nes [] p None
     (due-is cons here work.Solved enough q ∙ ap (λ (t : List ChainStep × LeafStatus). (listing here (outcome.System t.0 t.1), [])) (sym c)) e refl
 
-tried : (cons : List Polynomial) (here : Node) (a : Attempt) (r : Option Reason) → size_of here ≤ here.fuel → work.Try a ≡ work.next 1 here → reason_of 1 here a ≡ r
-    → expansion_of 1 cons here ≡ expansion_tried (more 1 cons) 1 here a r
-tried cons here a r enough q e = due-is cons here (work.Try a) enough q ∙ ap (expansion_tried (more 1 cons) 1 here a) e
+tried : (cons : List Polynomial) (here : Node) (a : Attempt) (r : Option Reason) → size_of here ≤ here.fuel → work.Try a ≡ work.next VERSION here → reason_of VERSION here a ≡ r
+    → expansion_of VERSION cons here ≡ expansion_tried (more VERSION cons) VERSION here a r
+tried cons here a r enough q e = due-is cons here (work.Try a) enough q ∙ ap (expansion_tried (more VERSION cons) VERSION here a) e
 
-pub opened : (cons : List Polynomial) (here : Node) (steps : List Step) (a : Attempt) (why : Reason) (p : Piece) → size_of here ≤ here.fuel → work.Try a ≡ work.next 1 here → reason_of 1 here a ≡ Some why
+pub opened : (cons : List Polynomial) (here : Node) (steps : List Step) (a : Attempt) (why : Reason) (p : Piece) → size_of here ≤ here.fuel → work.Try a ≡ work.next VERSION here → reason_of VERSION here a ≡ Some why
     → p ≡ record { path = here.path; steps = steps; eqs = here.eqs; nes = here.nes; outcome = outcome.Open why a } → Rests cons here steps (p, None)
 opened cons here steps a why p enough q r e = rests cons here steps (outcome.Open why a) here.eqs here.nes [] p None (tried cons here a (Some why) enough q r) e refl
 
-pub parted : (cons : List Polynomial) (here : Node) (steps : List Step) (a : Attempt) (o : Outcome) (plus minus : Node) (p : Piece) → size_of here ≤ here.fuel → work.Try a ≡ work.next 1 here → reason_of 1 here a ≡ None
-    → recorded_as here a ≡ AsOutcome o → made 1 here a ≡ plus ∷ minus ∷ [] → p ≡ record { path = here.path; steps = steps; eqs = []; nes = []; outcome = o } → Rests cons here steps (p, Some (plus, minus))
+pub parted : (cons : List Polynomial) (here : Node) (steps : List Step) (a : Attempt) (o : Outcome) (plus minus : Node) (p : Piece) → size_of here ≤ here.fuel → work.Try a ≡ work.next VERSION here → reason_of VERSION here a ≡ None
+    → recorded_as here a ≡ AsOutcome o → made VERSION here a ≡ plus ∷ minus ∷ [] → p ≡ record { path = here.path; steps = steps; eqs = []; nes = []; outcome = o } → Rests cons here steps (p, Some (plus, minus))
 parted cons here steps a o plus minus p enough q r t m e =
-    rests cons here steps o [] [] (made 1 here a) p (Some (plus, minus)) (tried cons here a None enough q r ∙ ap (expansion_recorded (more 1 cons) 1 here a) t) e (sym m)
+    rests cons here steps o [] [] (made VERSION here a) p (Some (plus, minus)) (tried cons here a None enough q r ∙ ap (expansion_recorded (more VERSION cons) VERSION here a) t) e (sym m)
 
 -- the piece lists the same where the node is the same
 pub listing-at : (n m : Node) (steps : List Step) (o : Outcome) (p : Piece) → n ≡ m → p ≡ record { path = n.path; steps = steps; eqs = n.eqs; nes = n.nes; outcome = o }
@@ -81,5 +82,5 @@ held-of s [] f = record { live = tt; standard = tt }
 held-of s (h ∷ hs) f = let more = held-of s hs f.1 in record { live = (f.0.live, more.live); standard = (f.0.standard, more.standard) }
 
 -- where nothing is left to do, each equation has a class of its own
-pub own : (here : Node) → work.Solved ≡ work.next 1 here → HaveOwnClasses here.eqs
-own here q = own-classes here.eqs here.nes (subst (IsRight 1 here) (sym q) (next-right 1 here))
+pub own : (here : Node) → work.Solved ≡ work.next VERSION here → HaveOwnClasses here.eqs
+own here q = own-classes here.eqs here.nes (subst (IsRight VERSION here) (sym q) (next-right VERSION here))

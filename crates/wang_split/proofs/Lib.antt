@@ -1,4 +1,3 @@
 pub mod Turns
-pub mod Copying
-pub mod Opened
 pub mod Concluded
+pub mod Recorded

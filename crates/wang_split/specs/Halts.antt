@@ -1,5 +1,5 @@
 -- Where the work on a node halts.
-use Rattle.std.specs.Prelude.{◌≡◌, List, Bool, true, false, Some}
+use Rattle.std.specs.Prelude.{◌≡◌, ◌<◌, ◌^◌, List, length, Bool, true, false, Some}
 use Rattle.poly_model.specs.Polynomial.{Polynomial}
 use Rattle.proof_steps.specs.Rules.{reason_of}
 use Rattle.proof_steps.specs.Work as work
@@ -13,6 +13,7 @@ use Rattle.workbench.specs.declared.order.Next.{Next}
 use Rattle.workbench.specs.declared.order.Next.TheVariants as due
 use Rattle.wang_split.specs.declared.working.Halt.{Halt}
 use Rattle.wang_split.specs.declared.working.Halt.TheVariants as halt
+use Rattle.proof_steps.specs.declared.version.TheConstants.{VERSION}
 
 -- The rule goes on at the node that it leaves.
 abbrev pub is_step : Attempt → Bool
@@ -30,10 +31,15 @@ Stays due.Solved = Unit {0}
 
 -- This is due at the node and is no step, or is due there and stopped.
 abbrev pub HaltedAt : Node → Halt → Type 0
-HaltedAt here (halt.Ended x) = (next_of x ≡ work.next 1 here) × Stays x
-HaltedAt here (halt.Stopped a why) = (work.Try a ≡ work.next 1 here) × (reason_of 1 here a ≡ Some why)
+HaltedAt here (halt.Ended x) = (next_of x ≡ work.next VERSION here) × Stays x
+HaltedAt here (halt.Stopped a why) = (work.Try a ≡ work.next VERSION here) × (reason_of VERSION here a ≡ Some why)
+
+-- The equations and the conditions have numbers of 16 bits.
+pub record IsFew (n : Node) : Type 0 where
+  pub eqs : length n.eqs < 2 ^ 16
+  pub nes : length n.nes < 2 ^ 16
 
 -- The steps and the work on what is left are the whole, and the work halts there.
 pub record Halted (n here : Node) (steps : List Step) (h : Halt) : Type 0 where
-  pub whole : (cons : List Polynomial) → Whole 1 cons n here steps
+  pub whole : (cons : List Polynomial) → Whole VERSION cons n here steps
   pub at : HaltedAt here h

@@ -1,3 +1,3 @@
+pub mod Taking
 pub mod Halts
-pub mod Copies
 pub mod Expanded

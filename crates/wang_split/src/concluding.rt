@@ -5,14 +5,15 @@ ghost use Rattle.proof_steps.specs.Work as order;
 ghost use Rattle.term_store.specs.Changes.{Keeps};
 ghost use Rattle.workbench.specs.Standing.{AreFound, AreHeld, Stands, beneath, node_at, poly_of};
 ghost use Rattle.poly_model.specs.Polynomial.{Polynomial};
-ghost use Rattle.wang_split.specs.Halts.{HaltedAt, Stays, is_step};
+ghost use Rattle.wang_split.specs.Halts.{HaltedAt, IsFew, Stays, is_step};
 ghost use Rattle.workbench.specs.Dues.{next_of};
 ghost use Rattle.wang_split.specs.Expanded.{Rests};
+ghost use Rattle.proof_steps.specs.declared.version.TheConstants.{VERSION};
 
 use crate::working::Halt;
 use poly_model::{OwnedPoly, Row};
 use polynomials::Poly;
-use proof_steps::{Attempt, Node, Outcome, Path, Piece, Step};
+use proof_steps::{Attempt, Node, Outcome, Path, Piece, Step, VERSION};
 use std::alloc::{AllocError, Global};
 use term_store::TermStore;
 use triangular::reduce_conclusions;
@@ -85,7 +86,8 @@ fn solved<S: TermStore>(
 ) -> Result<Piece, AllocError>
     requires stands { Stands (beneath (S.state s.old) bench.now) (S.state s.old) [] bench.now }
     requires room { EXPAND_UNITS ≤ (beneath (S.state s.old) bench.now).spare }
-    requires due { order.Solved ≡ order.next 1 (node_at (S.state s.old) bench.now) }
+    requires few { IsFew (node_at (S.state s.old) bench.now) }
+    requires due { order.Solved ≡ order.next VERSION (node_at (S.state s.old) bench.now) }
     requires cons { length cons.now ≤ MOST_CONCLUSIONS }
     ensures kept { Keeps (S.state s.old) (S.state s.new) }
     ensures rests { IfOk result (λ p. Rests cons.now (node_at (S.state s.old) bench.now)
@@ -109,7 +111,7 @@ fn parted<S: TermStore>(
 ) -> Result<(Piece, Option<(Node, Node)>), AllocError>
     requires stands { Stands (beneath (S.state s.old) bench.now) (S.state s.old) [] bench.now }
     requires room { EXPAND_UNITS ≤ (beneath (S.state s.old) bench.now).spare }
-    requires due { order.Try attempt ≡ order.next 1 (node_at (S.state s.old) bench.now) }
+    requires due { order.Try attempt ≡ order.next VERSION (node_at (S.state s.old) bench.now) }
     requires parts { is_step attempt ≡ false }
     ensures kept { Keeps (S.state s.old) (S.state s.new) }
     ensures rests { IfOk result (λ e. (cons : List Polynomial) →
@@ -118,7 +120,7 @@ fn parted<S: TermStore>(
     let Attempt::Split(f) = attempt else {
         unreachable!()
     };
-    match split(alloc, s, bench, f)? {
+    match split(VERSION, alloc, s, bench, f)? {
         Parting::Parted {
             initial,
             plus,
@@ -146,7 +148,8 @@ fn ended<S: TermStore>(
 ) -> Result<(Piece, Option<(Node, Node)>), AllocError>
     requires stands { Stands (beneath (S.state s.old) bench.now) (S.state s.old) [] bench.now }
     requires room { EXPAND_UNITS ≤ (beneath (S.state s.old) bench.now).spare }
-    requires due { next_of next ≡ order.next 1 (node_at (S.state s.old) bench.now) }
+    requires few { IsFew (node_at (S.state s.old) bench.now) }
+    requires due { next_of next ≡ order.next VERSION (node_at (S.state s.old) bench.now) }
     requires stays { Stays next }
     requires cons { length cons.now ≤ MOST_CONCLUSIONS }
     ensures kept { Keeps (S.state s.old) (S.state s.new) }
@@ -172,6 +175,7 @@ pub fn conclude<S: TermStore>(
 ) -> Result<(Piece, Option<(Node, Node)>), AllocError>
     requires stands { Stands (beneath (S.state s.old) bench.now) (S.state s.old) [] bench.now }
     requires room { EXPAND_UNITS ≤ (beneath (S.state s.old) bench.now).spare }
+    requires few { IsFew (node_at (S.state s.old) bench.now) }
     requires halted { HaltedAt (node_at (S.state s.old) bench.now) halt }
     requires cons { length cons.now ≤ MOST_CONCLUSIONS }
     ensures kept { Keeps (S.state s.old) (S.state s.new) }

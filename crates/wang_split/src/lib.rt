@@ -4,7 +4,7 @@
 
 mod concluding;
 mod expanding;
-mod opening;
+mod taken;
 mod working;
 
 pub use expanding::expand;

@@ -1,15 +1,18 @@
 // The rules that are due at a node, one after the other.
-ghost use Rattle.std.specs.Prelude.{◌≡◌, ◌≤◌, [], true, IfOk};
+ghost use Rattle.std.specs.Prelude.{◌≡◌, ◌≤◌, [], true, IfOk, OnOk};
 ghost use Rattle.poly_model.specs.declared.limits.TheConstants.{EXPAND_UNITS};
 ghost use Rattle.proof_steps.specs.Rules.{is_valid};
 ghost use Rattle.workbench.specs.Standing.{Stands, beneath, node_at};
-ghost use Rattle.workbench.specs.Taking.{Took};
-ghost use Rattle.wang_split.specs.Halts.{Halted, is_step};
+ghost use Rattle.proof_steps.specs.declared.step.Attempt.TheVariants.{Red, Tail};
+ghost use Rattle.wang_split.specs.Halts.{Halted, IsFew, is_step};
+ghost use Rattle.wang_split.specs.Taking.{Took};
+ghost use Rattle.proof_steps.specs.declared.version.TheConstants.{VERSION};
 
-use proof_steps::{Attempt, Reason, Step};
+use crate::taken::Taken;
+use proof_steps::{Attempt, Reason, Step, VERSION};
 use std::alloc::{AllocError, Global};
 use term_store::TermStore;
-use workbench::{Bench, Next, Taken, cut, drop, due, reduce};
+use workbench::{Bench, Next, copy_equation, cut, drop, due, reduce};
 
 /// Where the work on a node halts: at what is due and is no step, or at a step that is stopped.
 #[derive(Clone, Copy, Debug)]
@@ -28,6 +31,51 @@ fn is_step(attempt: Attempt) -> bool
     }
 }
 
+/// Tries to reduce an equation by another.
+fn take_reduction<S: TermStore>(
+    alloc: Global,
+    s: &mut S,
+    bench: &mut Bench,
+    g: u16,
+    f: u16,
+) -> Result<Taken, AllocError>
+    requires stands { Stands (beneath (S.state s.old) bench.old) (S.state s.old) [] bench.old }
+    requires valid { is_valid VERSION (node_at (S.state s.old) bench.old) (Red g f) ≡ true }
+    requires room { EXPAND_UNITS ≤ (beneath (S.state s.old) bench.old).spare }
+    ensures { Took (beneath (S.state s.old) bench.old) (node_at (S.state s.old) bench.old)
+        (Red g f) result (S.state s.new) bench.new }
+{
+    match reduce(VERSION, s, bench, g, f) {
+        Ok(m) => {
+            let r = copy_equation(alloc, s, bench, g)?;
+            Ok(Taken::Stepped(Step::Red { g, f, m, r }))
+        }
+        Err(why) => Ok(Taken::Stopped(why)),
+    }
+}
+
+/// Tries to cut an equation to its tail.
+fn take_cut<S: TermStore>(
+    alloc: Global,
+    s: &mut S,
+    bench: &mut Bench,
+    f: u16,
+) -> Result<Taken, AllocError>
+    requires stands { Stands (beneath (S.state s.old) bench.old) (S.state s.old) [] bench.old }
+    requires valid { is_valid VERSION (node_at (S.state s.old) bench.old) (Tail f) ≡ true }
+    requires room { EXPAND_UNITS ≤ (beneath (S.state s.old) bench.old).spare }
+    ensures { Took (beneath (S.state s.old) bench.old) (node_at (S.state s.old) bench.old)
+        (Tail f) result (S.state s.new) bench.new }
+{
+    match cut(VERSION, s, bench, f) {
+        Ok(()) => {
+            let r = copy_equation(alloc, s, bench, f)?;
+            Ok(Taken::Stepped(Step::Tail { f, r }))
+        }
+        Err(why) => Ok(Taken::Stopped(why)),
+    }
+}
+
 /// Tries a rule that goes on at the node that it leaves.
 fn take<S: TermStore>(
     alloc: Global,
@@ -36,16 +84,19 @@ fn take<S: TermStore>(
     attempt: Attempt,
 ) -> Result<Taken, AllocError>
     requires stands { Stands (beneath (S.state s.old) bench.old) (S.state s.old) [] bench.old }
-    requires valid { is_valid 1 (node_at (S.state s.old) bench.old) attempt ≡ true }
+    requires valid { is_valid VERSION (node_at (S.state s.old) bench.old) attempt ≡ true }
     requires step { is_step attempt ≡ true }
     requires room { EXPAND_UNITS ≤ (beneath (S.state s.old) bench.old).spare }
     ensures { Took (beneath (S.state s.old) bench.old) (node_at (S.state s.old) bench.old) attempt
         result (S.state s.new) bench.new }
 {
     match attempt {
-        Attempt::Drop(i) => Ok(drop(s, bench, i)),
-        Attempt::Red(g, f) => reduce(alloc, s, bench, g, f),
-        Attempt::Tail(f) => cut(alloc, s, bench, f),
+        Attempt::Drop(i) => {
+            drop(VERSION, s, bench, i);
+            Ok(Taken::Stepped(Step::Drop(i)))
+        }
+        Attempt::Red(g, f) => take_reduction(alloc, s, bench, g, f),
+        Attempt::Tail(f) => take_cut(alloc, s, bench, f),
         Attempt::Split(_) => unreachable!(),
     }
 }
@@ -59,7 +110,9 @@ pub fn work<S: TermStore>(
 ) -> Result<Halt, AllocError>
     requires stands { Stands (beneath (S.state s.old) bench.old) (S.state s.old) [] bench.old }
     requires room { EXPAND_UNITS ≤ (beneath (S.state s.old) bench.old).spare }
+    requires few { IsFew (node_at (S.state s.old) bench.old) }
     requires steps { steps.old.items ≡ [] }
+    ensures few { OnOk result (IsFew (node_at (S.state s.new) bench.new)) }
     ensures stands { Stands (beneath (S.state s.old) bench.old) (S.state s.new) [] bench.new }
     ensures halted { IfOk result (λ h. Halted (node_at (S.state s.old) bench.old)
         (node_at (S.state s.new) bench.new) steps.new.items h) }

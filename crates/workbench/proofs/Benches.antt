@@ -123,8 +123,6 @@ dropping base s t b c i x st h at e f p es ns z fu =
         size = omega (arith, z, size, terms, less, ap sizes eqs, ap sizes nes);
         fuel = (let g = st.fuel in omega (arith, g, z, fu));
         most = (let g = st.most in omega (arith, g, fu));
-        few = (let g = st.few in let l = ap length es in let m = length-remove b.eqs.items i h in omega (arith, g, l, m));
-        few_nes = subst (λ v. length v.items < 2 ^ 16) (sym ns) st.few_nes;
       };
       node = node ∙ ap (λ k. after (node_at s b) (without_place (node_at s b).eqs k) 1) (let q : i ≡ i + 1 - 1 = omega arith in q);
     }
@@ -179,8 +177,6 @@ alone base s t b k st e f =
         size = st.size ∙ ap size_of (sym node);
         fuel = st.fuel;
         most = st.most;
-        few = st.few;
-        few_nes = st.few_nes;
       };
       node = node;
     }
@@ -217,8 +213,6 @@ settling base s t u b c i x y r st h at yr ty k e f p es ns z fu enough =
         size = omega (arith, z, size, terms, yt, more, ap sizes eqs, ap sizes nes);
         fuel = enough;
         most = (let g = st.most in omega (arith, g, fu));
-        few = (let g = st.few in let l = ap length es in let m = length-set b.eqs.items i y in omega (arith, g, l, m));
-        few_nes = subst (λ v. length v.items < 2 ^ 16) (sym ns) st.few_nes;
       };
       node = node;
     }
@@ -257,7 +251,7 @@ equation-poly base s ks b i x st h at = record {
 -- ---- another base, another state
 pub rebase : (base other u : State) (c : Bench) (m : Node) → Keeps base other → Becomes other u c m → Becomes base u c m
 rebase base other u c m k be = record {
-  stands = record { owns = owning.owns-base other base u (slots_of c) be.stands.owns k; tell = be.stands.tell; standard = be.stands.standard; size = be.stands.size; fuel = be.stands.fuel; most = be.stands.most; few = be.stands.few; few_nes = be.stands.few_nes };
+  stands = record { owns = owning.owns-base other base u (slots_of c) be.stands.owns k; tell = be.stands.tell; standard = be.stands.standard; size = be.stands.size; fuel = be.stands.fuel; most = be.stands.most };
   node = be.node;
 }
 
@@ -272,8 +266,6 @@ kept base s t b st k =
         size = st.size ∙ ap size_of (sym node);
         fuel = st.fuel;
         most = st.most;
-        few = st.few;
-        few_nes = st.few_nes;
       };
       node = node;
     }
@@ -301,8 +293,6 @@ beside base s t b r st m =
         size = st.size ∙ ap size_of (sym node);
         fuel = st.fuel;
         most = st.most;
-        few = st.few;
-        few_nes = st.few_nes;
       };
       under = rest.1;
       node = node;
@@ -353,7 +343,7 @@ turn base s t b st k =
     let be = kept base s t b st k in
     let rest = owning.owns-rest base t (slots_of b) be.stands.owns in
     record {
-      stands = record { owns = rest.0; tell = be.stands.tell; standard = be.stands.standard; size = be.stands.size; fuel = be.stands.fuel; most = be.stands.most; few = be.stands.few; few_nes = be.stands.few_nes };
+      stands = record { owns = rest.0; tell = be.stands.tell; standard = be.stands.standard; size = be.stands.size; fuel = be.stands.fuel; most = be.stands.most };
       under = rest.1;
       node = be.node;
     }

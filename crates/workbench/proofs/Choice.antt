@@ -22,6 +22,7 @@ use Rattle.workbench.proofs.Owning as owning
 use Rattle.workbench.proofs.Benches as benches
 use Rattle.workbench.proofs.Tied as tied
 use Rattle.workbench.proofs.Tied.{some_place}
+use Rattle.proof_steps.specs.declared.version.TheConstants.{VERSION}
 
 -- the equations of a node are lists of the store
 pub found-all : (base s : State) (ks : List ℕ) (b : Bench) → Stands base s ks b → AreFound s b.eqs.items
@@ -39,7 +40,7 @@ by_places n d c q =
     (unwrap_or (option_map (λ i. Clashed i (number_in n.nes (item n.eqs i))) (some_place q)) (unwrap_or (class_due n) Solved)))
 
 pub next-is : (s : State) (b : Bench) → AllTell (node_at s b).nes b.eqs.items (node_at s b).eqs
-    → next 1 (node_at s b) ≡ by_places (node_at s b) (searches.dropped_in (held_at s) b.eqs.items) (searches.number_in b.eqs.items) (searches.clashed_in (held_at s) (node_at s b).nes b.eqs.items)
+    → next VERSION (node_at s b) ≡ by_places (node_at s b) (searches.dropped_in (held_at s) b.eqs.items) (searches.number_in b.eqs.items) (searches.clashed_in (held_at s) (node_at s b).nes b.eqs.items)
 next-is s b t =
     let n = node_at s b in
     λ i. unwrap_or (option_map (λ i. Try (attempt.Drop i)) (tied.drop-tied (held_at s) n b.eqs.items refl t i))
@@ -109,18 +110,18 @@ found-within s t [] w h = tt
 found-within s t (x ∷ hs) w h = (benches.poly-within s t x.poly w h.0, found-within s t hs w h.1)
 
 -- ---- the same for what the searches answer
-pub due-drop : (s : State) (b : Bench) (d : ℕ) → AllTell (node_at s b).nes b.eqs.items (node_at s b).eqs → d ≡ searches.dropped_in (held_at s) b.eqs.items → d ≢ 0 → Try (attempt.Drop d) ≡ next 1 (node_at s b)
+pub due-drop : (s : State) (b : Bench) (d : ℕ) → AllTell (node_at s b).nes b.eqs.items (node_at s b).eqs → d ≡ searches.dropped_in (held_at s) b.eqs.items → d ≢ 0 → Try (attempt.Drop d) ≡ next VERSION (node_at s b)
 due-drop s b d t is some =
     ap (λ k. Try (attempt.Drop k)) is ∙ by-drop (node_at s b) (searches.dropped_in (held_at s) b.eqs.items) (searches.number_in b.eqs.items) (searches.clashed_in (held_at s) (node_at s b).nes b.eqs.items) (λ z. some (is ∙ z)) ∙ sym (next-is s b t)
 
 pub due-close : (s : State) (b : Bench) (d c : ℕ) → AllTell (node_at s b).nes b.eqs.items (node_at s b).eqs → d ≡ searches.dropped_in (held_at s) b.eqs.items → d ≡ 0 → c ≡ searches.number_in b.eqs.items → c ≢ 0
-    → Closed c ≡ next 1 (node_at s b)
+    → Closed c ≡ next VERSION (node_at s b)
 due-close s b d c t di dz is some =
     ap Closed is ∙ by-close (node_at s b) (searches.dropped_in (held_at s) b.eqs.items) (searches.number_in b.eqs.items) (searches.clashed_in (held_at s) (node_at s b).nes b.eqs.items) (sym di ∙ dz) (λ z. some (is ∙ z)) ∙ sym (next-is s b t)
 
 pub due-clash : (s : State) (b : Bench) (d c q j : ℕ) (h : Held) → AllTell (node_at s b).nes b.eqs.items (node_at s b).eqs → d ≡ searches.dropped_in (held_at s) b.eqs.items → d ≡ 0 → c ≡ searches.number_in b.eqs.items → c ≡ 0
     → q ≡ searches.clashed_in (held_at s) (node_at s b).nes b.eqs.items → q ≢ 0 → q - 1 < length b.eqs.items → h ≡ get_or b.eqs.items (q - 1) h → j ≡ searches.place_at (λ r. same r (held_at s h)) 1 (node_at s b).nes
-    → Clashed q j ≡ next 1 (node_at s b)
+    → Clashed q j ≡ next VERSION (node_at s b)
 due-clash s b d c q j h t di dz ci cz qi some below at ji =
     let n = node_at s b in
     let number : j ≡ number_in n.nes (item n.eqs q) = ji ∙ sym (tied.among-number n.nes (held_at s h)) ∙ ap (number_in n.nes) (benches.equation-at s b.eqs.items (q - 1) h below at) in
@@ -128,6 +129,6 @@ due-clash s b d c q j h t di dz ci cz qi some below at ji =
     ∙ by-clash n (searches.dropped_in (held_at s) b.eqs.items) (searches.number_in b.eqs.items) (searches.clashed_in (held_at s) n.nes b.eqs.items) (sym di ∙ dz) (sym ci ∙ cz) (λ z. some (qi ∙ z)) ∙ sym (next-is s b t)
 
 pub due-class : (s : State) (b : Bench) (d c q : ℕ) → AllTell (node_at s b).nes b.eqs.items (node_at s b).eqs → d ≡ searches.dropped_in (held_at s) b.eqs.items → d ≡ 0 → c ≡ searches.number_in b.eqs.items → c ≡ 0
-    → q ≡ searches.clashed_in (held_at s) (node_at s b).nes b.eqs.items → q ≡ 0 → unwrap_or (class_due (node_at s b)) Solved ≡ next 1 (node_at s b)
+    → q ≡ searches.clashed_in (held_at s) (node_at s b).nes b.eqs.items → q ≡ 0 → unwrap_or (class_due (node_at s b)) Solved ≡ next VERSION (node_at s b)
 due-class s b d c q t di dz ci cz qi qz =
     by-class (node_at s b) (searches.dropped_in (held_at s) b.eqs.items) (searches.number_in b.eqs.items) (searches.clashed_in (held_at s) (node_at s b).nes b.eqs.items) (sym di ∙ dz) (sym ci ∙ cz) (sym qi ∙ qz) ∙ sym (next-is s b t)

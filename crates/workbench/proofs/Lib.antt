@@ -5,3 +5,7 @@ pub mod Tied
 pub mod Choice
 pub mod Tried
 pub mod Sharing
+pub mod Opened
+pub mod Copying
+pub mod Validity
+pub mod Putting

@@ -14,15 +14,16 @@ use Rattle.poly_model.specs.Equality.{same-is}
 use Rattle.workbench.proofs.Tests.{number-is}
 use Rattle.poly_model.specs.Polynomial.{Polynomial}
 use Rattle.proof_steps.specs.Numbers.{item, has, first, first_from, greatest}
-use Rattle.poly_model.specs.Reduction.{same, has_polynomial, is_zero, is_nonzero_constant, class_of, main_degree}
-use Rattle.proof_steps.specs.Rules.{has_known_initial, is_settled, is_valid}
+use Rattle.poly_model.specs.Reduction.{same, has_polynomial, is_constant, is_zero, is_nonzero_constant, class_of, main_degree}
+use Rattle.proof_steps.specs.Rules.{has_known_initial, is_settled, is_triangular, is_valid}
 use Rattle.proof_steps.specs.Work as work
 use Rattle.proof_steps.specs.Work.{unsettled_class, is_less, is_least, least, other}
 use Rattle.proof_steps.specs.declared.piece.Node.{Node}
 use Rattle.workbench.specs.Standing.{Tells, AllTell, AreFound}
 use Rattle.term_store.specs.States.{State}
-use Rattle.workbench.specs.Searches.{count_in, all_known_in, settled_in, greatest_in, open_class, unsettled_in, is_less_than, none_less_in, is_least_of, place_of, least_in, other_in, number_in, meets, among_in, dropped_in, clashed_in, place_at}
+use Rattle.workbench.specs.Searches.{count_in, all_known_in, settled_in, triangular_in, greatest_in, open_class, unsettled_in, is_less_than, none_less_in, is_least_of, place_of, least_in, other_in, number_in, meets, among_in, dropped_in, clashed_in, place_at}
 use Rattle.workbench.specs.declared.bench.Held.{Held}
+use Rattle.proof_steps.specs.declared.version.TheConstants.{VERSION}
 
 count-tied : (N : List Polynomial) (hs : List Held) (E : List Polynomial) (x : ℕ) → AllTell N hs E → count_in hs x ≡ count_by (λ p. class_of p == x) E
 count-tied N [] [] x t = refl
@@ -58,6 +59,17 @@ none-tied N [] [] x h p t v = refl
 none-tied N [] (r ∷ E) x h p t v = absurd t
 none-tied N (q ∷ hs) [] x h p t v = absurd t
 none-tied N (q ∷ hs) (r ∷ E) x h p t v = λ i. not ((t.0.class i == x) && less-tied N q h r p t.0 v i) && none-tied N hs E x h p t.1 v i
+
+triangular-by : (N : List Polynomial) (whole hs : List Held) (all E : List Polynomial) → AllTell N whole all → AllTell N hs E
+    → list_all (λ h. not (h.class == 0) && settled_in whole h.class) hs ≡ list_all (λ p. not (is_constant p) && is_settled all N (class_of p)) E
+triangular-by N whole [] all [] w t = refl
+triangular-by N whole [] all (p ∷ E) w t = absurd t
+triangular-by N whole (h ∷ hs) all [] w t = absurd t
+triangular-by N whole (h ∷ hs) all (p ∷ E) w t =
+    λ i. (not (t.0.class i == 0) && (ap (settled_in whole) t.0.class ∙ settled-tied N whole all (class_of p) w) i) && triangular-by N whole hs all E w t.1 i
+
+pub triangular-tied : (n : Node) (hs : List Held) → AllTell n.nes hs n.eqs → triangular_in hs ≡ is_triangular n.eqs n.nes
+triangular-tied n hs t = triangular-by n.nes hs hs n.eqs n.eqs t t
 
 -- ---- the first that passes
 abbrev pub some_place : ℕ → Option ℕ
@@ -100,13 +112,13 @@ other-tied f N hs x g t =
 suc-zero : (n : ℕ) → (suc n == 0) ≡ false
 suc-zero n = ne_eqb (suc n) 0 (λ e. omega (arith, e))
 
-number-told : (N : List Polynomial) (h : Held) (p : Polynomial) → Tells N h p → is_nonzero_constant p ≡ ((h.class == 0) && not (h.terms == 0))
+pub number-told : (N : List Polynomial) (h : Held) (p : Polynomial) → Tells N h p → is_nonzero_constant p ≡ ((h.class == 0) && not (h.terms == 0))
 number-told N h [] u = λ i. (sym u.class i == 0) && not (sym u.terms i == 0)
 number-told N h (e ∷ p) u =
     sym (number-is (e ∷ p) u.standard (omega arith)) ∙ (λ i. sym u.class i == 0)
     ∙ sym (and-true (h.class == 0)) ∙ ap (λ b. (h.class == 0) && not b) (sym (suc-zero (length p))) ∙ ap (λ n. (h.class == 0) && not (n == 0)) (sym u.terms)
 
-zero-told : (N : List Polynomial) (h : Held) (p : Polynomial) → Tells N h p → is_zero p ≡ (h.terms == 0)
+pub zero-told : (N : List Polynomial) (h : Held) (p : Polynomial) → Tells N h p → is_zero p ≡ (h.terms == 0)
 zero-told N h [] u = ap (λ n. n == 0) (sym u.terms)
 zero-told N h (e ∷ p) u =
     elim (is_zero (e ∷ p)) as (λ b. is_zero (e ∷ p) ≡ b → b ≡ false) [
@@ -130,16 +142,16 @@ meets-same N q h r p u v =
           (eq-eqb _ _ (u.terms ∙ ap length (sym is) ∙ sym v.terms))))
     ] refl
 
-among-tied : (f : Held → Polynomial) (N : List Polynomial) (hs : List Held) (h : Held) → AllTell N hs (map f hs) → Tells N h (f h) → has_polynomial (map f hs) (f h) ≡ among_in f hs h
+pub among-tied : (f : Held → Polynomial) (N : List Polynomial) (hs : List Held) (h : Held) → AllTell N hs (map f hs) → Tells N h (f h) → has_polynomial (map f hs) (f h) ≡ among_in f hs h
 among-tied f N [] h t u = refl
 among-tied f N (q ∷ hs) h t u = λ i. meets-same N q h (f q) (f h) t.0 u i || among-tied f N hs h t.1 u i
 
-tell-take : (f : Held → Polynomial) (N : List Polynomial) (n : ℕ) (hs : List Held) → AllTell N hs (map f hs) → AllTell N (take n hs) (map f (take n hs))
+pub tell-take : (f : Held → Polynomial) (N : List Polynomial) (n : ℕ) (hs : List Held) → AllTell N hs (map f hs) → AllTell N (take n hs) (map f (take n hs))
 tell-take f N zero hs t = tt
 tell-take f N (suc n) [] t = tt
 tell-take f N (suc n) (h ∷ hs) t = (t.0, tell-take f N n hs t.1)
 
-pub drop-tied : (f : Held → Polynomial) (n : Node) (hs : List Held) → n.eqs ≡ map f hs → AllTell n.nes hs (map f hs) → first (λ i. is_valid 1 n (attempt.Drop i)) (length n.eqs) ≡ some_place (dropped_in f hs)
+pub drop-tied : (f : Held → Polynomial) (n : Node) (hs : List Held) → n.eqs ≡ map f hs → AllTell n.nes hs (map f hs) → first (λ i. is_valid VERSION n (attempt.Drop i)) (length n.eqs) ≡ some_place (dropped_in f hs)
 drop-tied f n hs is t =
     (λ i. first (λ j. has (is i) j && (is_zero (item (is i) j) || has_polynomial (take (j - 1) (is i)) (item (is i) j))) (length (is i)))
     ∙ found f n.nes (λ j p. has (map f hs) j && (is_zero p || has_polynomial (take (j - 1) (map f hs)) p)) (λ k h. (h.terms == 0) || among_in f (take (k - 1) hs) h) (map f hs) hs 0 t

@@ -4,3 +4,5 @@ pub mod Searches
 pub mod Dues
 pub mod Taking
 pub mod Splitting
+pub mod Copies
+pub mod Numbered

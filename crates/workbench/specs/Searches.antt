@@ -15,6 +15,10 @@ all_known_in hs x = list_all (λ h. not (h.class == x) || h.known) hs
 abbrev pub settled_in : List Held → ℕ → Bool
 settled_in hs x = count_in hs x == 1 && all_known_in hs x
 
+-- No equation is a constant, and each class that occurs is settled.
+abbrev pub triangular_in : List Held → Bool
+triangular_in hs = list_all (λ h. not (h.class == 0) && settled_in hs h.class) hs
+
 abbrev pub greatest_in : (Held → ℕ) → List Held → ℕ
 greatest_in f [] = 0
 greatest_in f (h ∷ hs) = max (f h) (greatest_in f hs)

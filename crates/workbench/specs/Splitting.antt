@@ -12,12 +12,12 @@ use Rattle.workbench.specs.declared.splitting.Fuels.{Fuels}
 use Rattle.workbench.specs.declared.splitting.Parting.{Parting}
 use Rattle.workbench.specs.declared.splitting.Parting.TheVariants as parting
 
-abbrev pub Parts : Node → ℕ → Parting → Type 0
-Parts n f (parting.Parted j plus minus) =
-    (reason_of 1 n (attempt.Split f) ≡ None)
+abbrev pub Parts : ℕ → Node → ℕ → Parting → Type 0
+Parts version n f (parting.Parted j plus minus) =
+    (reason_of version n (attempt.Split f) ≡ None)
     × (recorded_as n (attempt.Split f) ≡ AsOutcome (outcome.Split f j))
-    × (made 1 n (attempt.Split f) ≡ plus ∷ minus ∷ [])
-Parts n f (parting.Stopped why) = reason_of 1 n (attempt.Split f) ≡ Some why
+    × (made version n (attempt.Split f) ≡ plus ∷ minus ∷ [])
+Parts version n f (parting.Stopped why) = reason_of version n (attempt.Split f) ≡ Some why
 
 -- The same by the initial and the tail.
 abbrev pub pair : Node → ℕ → Polynomial → Polynomial → List Node

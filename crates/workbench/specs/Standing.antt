@@ -71,8 +71,6 @@ pub record Stands (base s : State) (ks : List ℕ) (b : Bench) : Type 0 where
   pub size : b.size ≡ size_of (node_at s b)
   pub fuel : b.size ≤ b.fuel
   pub most : b.fuel ≤ MOST_FUEL
-  pub few : length b.eqs.items < 2 ^ 16
-  pub few_nes : length b.nes.items < 2 ^ 16
 
 -- It stands there, and is this node.
 pub record Becomes (base t : State) (c : Bench) (n : Node) : Type 0 where

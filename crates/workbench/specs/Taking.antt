@@ -1,21 +1,30 @@
--- What is made of the node that is worked on.
-use Rattle.std.specs.Prelude.{◌≡◌, [], Some, None, Result, Ok, Err}
+-- What the rules make of the node that is worked on.
+use Rattle.std.specs.Prelude.{◌≡◌, ℕ, ℤ, Some, None, Result, Ok, Err}
+use Rattle.poly_model.specs.Reduction.{reduction_of}
+use Rattle.poly_model.specs.declared.limits.Reason.{Reason}
 use Rattle.term_store.specs.States.{State}
-use Rattle.proof_steps.specs.Rules.{reason_of, stepped}
-use Rattle.proof_steps.specs.Trees.{AsStep, recorded_as}
+use Rattle.proof_steps.specs.Numbers.{item}
+use Rattle.proof_steps.specs.Rules.{cut, reason_of, reduced}
 use Rattle.proof_steps.specs.declared.piece.Node.{Node}
 use Rattle.proof_steps.specs.declared.step.Attempt.{Attempt}
-use Rattle.workbench.specs.Standing.{Stands, Becomes}
+use Rattle.proof_steps.specs.declared.step.Attempt.TheVariants.{Red, Tail}
+use Rattle.workbench.specs.Standing.{Becomes}
 use Rattle.workbench.specs.declared.bench.Bench.{Bench}
-use Rattle.workbench.specs.declared.taken.Taken.{Taken}
-use Rattle.workbench.specs.declared.taken.Taken.TheVariants as taken
 
--- What is taken of a rule is what the rule makes, or what stops it, and the store has the lists of the node that is left.
-abbrev pub Takes : State → Node → Attempt → Taken → State → Bench → Type 0
-Takes base n a (taken.Stepped s) t c = (reason_of 1 n a ≡ None) × (recorded_as n a ≡ AsStep s) × Becomes base t c (stepped n s)
-Takes base n a (taken.Stopped why) t c = (reason_of 1 n a ≡ Some why) × Becomes base t c n
+-- Nothing stops the rule, and the store has the lists of the node that it leaves.
+abbrev pub Leaves : ℕ → State → Node → Attempt → Node → State → Bench → Type 0
+Leaves version base n a m t c = (reason_of version n a ≡ None) × Becomes base t c m
 
--- Where memory is refused, the store has the lists of some node that stands.
-abbrev pub Took : {E : Type 0} → State → Node → Attempt → Result Taken E → State → Bench → Type 0
-Took base n a (Ok x) t c = Takes base n a x t c
-Took base n a (Err e) t c = Stands base t [] c
+-- The rule is stopped, and the store has the lists of the node as it was.
+abbrev pub StopsAt : ℕ → State → Node → Attempt → Reason → State → Bench → Type 0
+StopsAt version base n a why t c = (reason_of version n a ≡ Some why) × Becomes base t c n
+
+-- A reduction leaves a node and has a multiplier, or is stopped.
+abbrev pub Reduces : ℕ → State → Node → (g f : ℕ) → Result ℤ Reason → State → Bench → Type 0
+Reduces version base n g f (Ok m) t c = (m ≡ (reduction_of (item n.eqs g) (item n.eqs f)).0) × Leaves version base n (Red g f) (reduced n g f) t c
+Reduces version base n g f (Err why) t c = StopsAt version base n (Red g f) why t c
+
+-- A cut to the tail leaves a node, or is stopped.
+abbrev pub Cuts : ℕ → State → Node → (f : ℕ) → Result (Unit {0}) Reason → State → Bench → Type 0
+Cuts version base n f (Ok done) t c = Leaves version base n (Tail f) (cut n f) t c
+Cuts version base n f (Err why) t c = StopsAt version base n (Tail f) why t c

@@ -5,20 +5,25 @@
 mod bench;
 mod facts;
 mod lists;
+mod opening;
 mod order;
 mod parts;
 mod repeats;
 mod search;
 mod splitting;
 mod steps;
-mod taken;
 mod taking;
+mod told;
+mod valid;
 
 pub use bench::{Bench, Held};
 pub use facts::{all_held, is_known};
 pub use lists::{release, release_held, release_polys};
+pub use opening::open;
 pub use order::{Next, due};
 pub use parts::{class_number, give_up, term_count};
+pub use search::is_triangular;
 pub use splitting::{Parting, copy_conditions, copy_equations, split};
-pub use taken::Taken;
 pub use taking::{cut, drop, reduce};
+pub use told::{copy_equation, is_told, tells_equation};
+pub use valid::{may_cut, may_drop, may_reduce, may_split, numbered};

@@ -5,6 +5,7 @@ ghost use Rattle.proof_steps.specs.Work.{unsettled_class, work_on, next};
 ghost use Rattle.poly_model.specs.declared.limits.TheConstants.{ARITH_UNITS, POLY_UNITS};
 ghost use Rattle.workbench.specs.Standing.{Stands, beneath, node_at};
 ghost use Rattle.workbench.specs.Dues.{next_of};
+ghost use Rattle.proof_steps.specs.declared.version.TheConstants.{VERSION};
 
 use crate::bench::Bench;
 use crate::parts::{give_up, primitive_initial};
@@ -53,7 +54,7 @@ pub fn due<S: TermStore>(s: &mut S, bench: &Bench) -> Next
     requires few { length bench.now.eqs.items < 2 ^ 16 }
     requires few_nes { length bench.now.nes.items < 2 ^ 16 }
     requires room { ARITH_UNITS + POLY_UNITS ≤ (S.state s.old).spare }
-    ensures next { next_of result ≡ next 1 (node_at (S.state s.old) bench.now) }
+    ensures next { next_of result ≡ next VERSION (node_at (S.state s.old) bench.now) }
     ensures kept { Keeps (S.state s.old) (S.state s.new) }
 {
     let i = dropped(s, &bench.eqs);

@@ -11,7 +11,7 @@ use polynomials::{Poly, same};
 use term_store::TermStore;
 
 /// The equation is one of these.
-fn is_among<S: TermStore>(s: &S, hs: &[Held], h: &Held) -> bool
+pub fn is_among<S: TermStore>(s: &S, hs: &[Held], h: &Held) -> bool
     requires hs { AreFound (S.state s.now) hs.now }
     requires h { IsPoly (S.state s.now) h.now.poly }
     ensures { result ≡ among_in (held_at (S.state s.now)) hs.now h.now }

@@ -1,6 +1,6 @@
 // Searches among equations by what is known of them, with no look at their terms.
 ghost use Rattle.std.specs.Prelude.{◌≡◌, ◌<◌, ◌≤◌, ◌^◌, length};
-ghost use Rattle.workbench.specs.Searches.{count_in, all_known_in, none_less_in, is_less_than, is_least_of, settled_in, unsettled_in, least_in, other_in, number_in};
+ghost use Rattle.workbench.specs.Searches.{count_in, all_known_in, none_less_in, is_less_than, is_least_of, settled_in, triangular_in, unsettled_in, least_in, other_in, number_in};
 
 use crate::bench::Held;
 
@@ -52,6 +52,20 @@ fn is_settled(hs: &[Held], x: u8) -> bool
     ensures { result ≡ settled_in hs.now x }
 {
     count(hs, x) == 1 && all_known(hs, x)
+}
+
+/// The equations are a triangular system: none is a constant, and each class that occurs is settled.
+pub fn is_triangular(hs: &[Held]) -> bool
+    ensures { result ≡ triangular_in hs.now }
+{
+    let mut rest = hs;
+    while let Some((first, after)) = rest.split_first() {
+        if first.class == 0 || !is_settled(hs, first.class) {
+            return false;
+        }
+        rest = after;
+    }
+    true
 }
 
 /// The greatest class of an equation that is not settled, and 0 where all are.

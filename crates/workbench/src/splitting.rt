@@ -189,16 +189,18 @@ fn children<S: TermStore>(
 
 /// Splits a node on the initial of an equation.
 pub fn split<S: TermStore>(
+    version: u8,
     alloc: Global,
     s: &mut S,
     bench: &Bench,
     f: u16,
 ) -> Result<Parting, AllocError>
     requires stands { Stands (beneath (S.state s.old) bench.now) (S.state s.old) [] bench.now }
-    requires valid { is_valid 1 (node_at (S.state s.old) bench.now) (attempt.Split f) ≡ true }
+    requires valid { is_valid version (node_at (S.state s.old) bench.now) (attempt.Split f) ≡ true }
     requires room { EXPAND_UNITS ≤ (beneath (S.state s.old) bench.now).spare }
     ensures kept { Keeps (S.state s.old) (S.state s.new) }
-    ensures parts { IfOk result (λ p. Parts (node_at (S.state s.old) bench.now) f p) }
+    ensures parts { IfOk result (λ p. Parts version
+        (node_at (S.state s.old) bench.now) f p) }
 {
     if bench.path.len() == MOST_LETTERS {
         return Ok(Parting::Stopped(Reason::Depth));

@@ -2,17 +2,17 @@ use Rattle.std.proofs.Common.{All, ◌∙◌, ap, sym, subst}
 use Rattle.std.specs.List.{flat_map}
 use Rattle.proof_log.proofs.Owned.{log-own}
 use Rattle.proof_log.specs.Own.{IsOwn}
-use Rattle.proof_log.specs.declared.limits.TheConstants.{VERSION}
+use Rattle.prove_run.specs.Logs.{newest}
 use Rattle.command_line.specs.Proving.{proved, status_of}
 use Rattle.command_line.specs.VerdictLines.{verdicts_text, problems_in, verdicts_in}
 use Rattle.command_line.proofs.Outcomes.{put_failed_ends}
 use Rattle.command_line.proofs.proving.put_proofs.Goals as goal
 
 pub all_verdict_lines-requires : goal.all_verdict_lines-requires
-all_verdict_lines-requires g c = subst (All IsOwn) (sym c.as_slice.ensures) (log-own VERSION c.args.log.now.proofs c.requires.written c.requires.lines)
+all_verdict_lines-requires g c = subst (All IsOwn) (sym c.as_slice.ensures) (log-own newest c.args.log.now.proofs c.requires.whole.written c.requires.whole.lines)
 
 pub put_log-requires-clause-own : goal.put_log-requires-clause-own
-put_log-requires-clause-own g c = log-own VERSION c.args.log.now.proofs c.requires.written c.requires.lines
+put_log-requires-clause-own g c = log-own newest c.args.log.now.proofs c.requires.whole.written c.requires.whole.lines
 
 pub returns-in-Ok-put_log-clause-ends : goal.returns-in-Ok-put_log-clause-ends
 returns-in-Ok-put_log-clause-ends g c =

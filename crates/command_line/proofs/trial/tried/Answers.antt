@@ -1,6 +1,6 @@
 use Rattle.proof_log.proofs.Owned.{log-own}
-use Rattle.proof_log.specs.declared.limits.TheConstants.{VERSION}
+use Rattle.prove_run.specs.Logs.{newest}
 use Rattle.command_line.proofs.trial.tried.Goals as goal
 
-pub log_bytes-requires : goal.log_bytes-requires
-log_bytes-requires g c = log-own VERSION c.in_ok-log.log.proofs c.in_ok-log.ensures.whole.written c.in_ok-log.ensures.whole.lines
+pub log_bytes-requires-clause-own : goal.log_bytes-requires-clause-own
+log_bytes-requires-clause-own g c = log-own newest c.in_ok-log.log.proofs c.in_ok-log.ensures.whole.written c.in_ok-log.ensures.whole.lines

@@ -6,4 +6,4 @@ pub returns-clause-lines : goal.returns-clause-lines
 returns-clause-lines c names l m n f g e = one_line names l m n f g e
 
 pub returns-clause-logs : goal.returns-clause-logs
-returns-clause-logs c version other ps qs v w f g e = one_log_text version other ps qs v w f g e
+returns-clause-logs c h other ps qs a b v w f g e = one_log_text h other ps qs a b v w f g e

@@ -51,7 +51,7 @@ equation-by-requires-clause-low g c =
     let inv = c.loop-alloc.invariant in
     let x = c.reducing_class-x.result in
     let f = c.first_of_class-f.result in
-    let place = beside.placed base hs R x f c.requires.tell c.requires.own c.reducing_class-x.ensures c.if-x-eq0.false c.first_of_class-f.ensures.place in
+    let place = beside.placed base [] hs R x f c.requires.tell c.requires.own c.reducing_class-x.ensures c.if-x-eq0.false c.first_of_class-f.ensures.place in
     place.low
 
 pub equation-by-requires-clause-below : goal.equation-by-requires-clause-below
@@ -66,7 +66,7 @@ equation-by-requires-clause-below g c =
     let inv = c.loop-alloc.invariant in
     let x = c.reducing_class-x.result in
     let f = c.first_of_class-f.result in
-    let place = beside.placed base hs R x f c.requires.tell c.requires.own c.reducing_class-x.ensures c.if-x-eq0.false c.first_of_class-f.ensures.place in
+    let place = beside.placed base [] hs R x f c.requires.tell c.requires.own c.reducing_class-x.ensures c.if-x-eq0.false c.first_of_class-f.ensures.place in
     place.below
 
 pub step_on-requires-clause-f : goal.step_on-requires-clause-f
@@ -81,7 +81,7 @@ step_on-requires-clause-f g c =
     let inv = c.loop-alloc.invariant in
     let x = c.reducing_class-x.result in
     let f = c.first_of_class-f.result in
-    let place = beside.placed base hs R x f c.requires.tell c.requires.own c.reducing_class-x.ensures c.if-x-eq0.false c.first_of_class-f.ensures.place in
+    let place = beside.placed base [] hs R x f c.requires.tell c.requires.own c.reducing_class-x.ensures c.if-x-eq0.false c.first_of_class-f.ensures.place in
     let h = c.equation-by.result in
     let pick = beside.picked base t (slot_of rest) hs R x f h inv.under c.requires.found place c.equation-by.ensures in
     pick.poly
@@ -98,7 +98,7 @@ step_on-requires-clause-class g c =
     let inv = c.loop-alloc.invariant in
     let x = c.reducing_class-x.result in
     let f = c.first_of_class-f.result in
-    let place = beside.placed base hs R x f c.requires.tell c.requires.own c.reducing_class-x.ensures c.if-x-eq0.false c.first_of_class-f.ensures.place in
+    let place = beside.placed base [] hs R x f c.requires.tell c.requires.own c.reducing_class-x.ensures c.if-x-eq0.false c.first_of_class-f.ensures.place in
     let h = c.equation-by.result in
     let pick = beside.picked base t (slot_of rest) hs R x f h inv.under c.requires.found place c.equation-by.ensures in
     pick.class
@@ -115,7 +115,7 @@ step_on-requires-clause-reaches g c =
     let inv = c.loop-alloc.invariant in
     let x = c.reducing_class-x.result in
     let f = c.first_of_class-f.result in
-    let place = beside.placed base hs R x f c.requires.tell c.requires.own c.reducing_class-x.ensures c.if-x-eq0.false c.first_of_class-f.ensures.place in
+    let place = beside.placed base [] hs R x f c.requires.tell c.requires.own c.reducing_class-x.ensures c.if-x-eq0.false c.first_of_class-f.ensures.place in
     let h = c.equation-by.result in
     let pick = beside.picked base t (slot_of rest) hs R x f h inv.under c.requires.found place c.equation-by.ensures in
     pick.reached
@@ -133,7 +133,7 @@ returns-in-Ok-Stopped-clause-comes g c =
     let long : 0 < length R = omega (arith, c.term_count.ensures, c.loop-alloc-test.true) in
     let x = c.reducing_class-x.result in
     let f = c.first_of_class-f.result in
-    let place = beside.placed base hs R x f c.requires.tell c.requires.own c.reducing_class-x.ensures c.if-x-eq0.false c.first_of_class-f.ensures.place in
+    let place = beside.placed base [] hs R x f c.requires.tell c.requires.own c.reducing_class-x.ensures c.if-x-eq0.false c.first_of_class-f.ensures.place in
     let h = c.equation-by.result in
     let pick = beside.picked base t (slot_of rest) hs R x f h inv.under c.requires.found place c.equation-by.ensures in
     let u = g.S.TermStore.state c.step_on.new.s in
@@ -156,7 +156,7 @@ give_up-requires-in-Err-add_step g c =
     let inv = c.loop-alloc.invariant in
     let x = c.reducing_class-x.result in
     let f = c.first_of_class-f.result in
-    let place = beside.placed base hs R x f c.requires.tell c.requires.own c.reducing_class-x.ensures c.if-x-eq0.false c.first_of_class-f.ensures.place in
+    let place = beside.placed base [] hs R x f c.requires.tell c.requires.own c.reducing_class-x.ensures c.if-x-eq0.false c.first_of_class-f.ensures.place in
     let h = c.equation-by.result in
     let pick = beside.picked base t (slot_of rest) hs R x f h inv.under c.requires.found place c.equation-by.ensures in
     let u = g.S.TermStore.state c.step_on.new.s in
@@ -180,7 +180,7 @@ returns-in-Err-add_step-clause-kept g c =
     let inv = c.loop-alloc.invariant in
     let x = c.reducing_class-x.result in
     let f = c.first_of_class-f.result in
-    let place = beside.placed base hs R x f c.requires.tell c.requires.own c.reducing_class-x.ensures c.if-x-eq0.false c.first_of_class-f.ensures.place in
+    let place = beside.placed base [] hs R x f c.requires.tell c.requires.own c.reducing_class-x.ensures c.if-x-eq0.false c.first_of_class-f.ensures.place in
     let h = c.equation-by.result in
     let pick = beside.picked base t (slot_of rest) hs R x f h inv.under c.requires.found place c.equation-by.ensures in
     let u = g.S.TermStore.state c.step_on.new.s in
@@ -207,7 +207,7 @@ loop-alloc-preserved g c =
     let long : 0 < length R = omega (arith, c.term_count.ensures, c.loop-alloc-test.true) in
     let x = c.reducing_class-x.result in
     let f = c.first_of_class-f.result in
-    let place = beside.placed base hs R x f c.requires.tell c.requires.own c.reducing_class-x.ensures c.if-x-eq0.false c.first_of_class-f.ensures.place in
+    let place = beside.placed base [] hs R x f c.requires.tell c.requires.own c.reducing_class-x.ensures c.if-x-eq0.false c.first_of_class-f.ensures.place in
     let h = c.equation-by.result in
     let pick = beside.picked base t (slot_of rest) hs R x f h inv.under c.requires.found place c.equation-by.ensures in
     let u = g.S.TermStore.state c.step_on.new.s in

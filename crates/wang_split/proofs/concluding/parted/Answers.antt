@@ -11,11 +11,12 @@ use Rattle.workbench.proofs.Choice as choice
 use Rattle.wang_split.proofs.Turns as turns
 use Rattle.wang_split.proofs.Concluded as concluded
 use Rattle.wang_split.proofs.concluding.parted.Goals as goal
+use Rattle.proof_steps.specs.declared.version.TheConstants.{VERSION}
 
 pub split-requires-clause-valid : goal.split-requires-clause-valid
 split-requires-clause-valid g c =
     let here = node_at (g.S.TermStore.state c.args.s.now) c.args.bench.now in
-    subst (λ a. is_valid 1 here a ≡ true) c.in-Split.is (turns.valid-there here here c.args.attempt refl c.requires.due)
+    subst (λ a. is_valid VERSION here a ≡ true) c.in-Split.is (turns.valid-there here here c.args.attempt refl c.requires.due)
 
 pub listed-requires-clause-eqs : goal.listed-requires-clause-eqs
 listed-requires-clause-eqs g c =
@@ -37,9 +38,9 @@ returns-in-Parted-clause-rests g c =
     let b = c.args.bench.now in
     let here = node_at s b in
     let f = c.in-Split.f in
-    let parts = subst (Parts here f) c.in-Parted.is c.in_ok-initial.ensures.parts in
+    let parts = subst (Parts VERSION here f) c.in-Parted.is c.in_ok-initial.ensures.parts in
     let enough : size_of here ≤ b.fuel = (let z = c.requires.stands.size in let e = c.requires.stands.fuel in omega (arith, z, e)) in
-    let due : work.Try (attempt.Split f) ≡ work.next 1 here = ap work.Try (sym c.in-Split.is) ∙ c.requires.due in
+    let due : work.Try (attempt.Split f) ≡ work.next VERSION here = ap work.Try (sym c.in-Split.is) ∙ c.requires.due in
     λ cons. concluded.parted cons here c.args.steps.items (attempt.Split f) (outcome.Split f c.in-Parted.initial) c.in-Parted.plus c.in-Parted.minus c.bare.result enough due parts.0 parts.1 parts.2 c.bare.ensures
 
 pub returns-in_ok-piece-in-Stopped-clause-rests : goal.returns-in_ok-piece-in-Stopped-clause-rests
@@ -51,9 +52,9 @@ returns-in_ok-piece-in-Stopped-clause-rests g c =
     let f = c.in-Split.f in
     let steps = c.args.steps.items in
     let why = c.in-Stopped.reason in
-    let parts = subst (Parts here f) c.in-Stopped.is c.in_ok-initial.ensures.parts in
+    let parts = subst (Parts VERSION here f) c.in-Stopped.is c.in_ok-initial.ensures.parts in
     let enough : size_of here ≤ b.fuel = (let z = c.requires.stands.size in let e = c.requires.stands.fuel in omega (arith, z, e)) in
-    let due : work.Try (attempt.Split f) ≡ work.next 1 here = ap work.Try (sym c.in-Split.is) ∙ c.requires.due in
+    let due : work.Try (attempt.Split f) ≡ work.next VERSION here = ap work.Try (sym c.in-Split.is) ∙ c.requires.due in
     let node = (benches.turn (beneath s b) s t b c.requires.stands c.in_ok-initial.ensures.kept).node in
     let same = concluded.listing-at (node_at t b) here steps (outcome.Open why (attempt.Split f)) c.in_ok-piece-in-Stopped.piece node c.in_ok-piece-in-Stopped.ensures in
     λ cons. concluded.opened cons here steps (attempt.Split f) why c.in_ok-piece-in-Stopped.piece enough due parts same

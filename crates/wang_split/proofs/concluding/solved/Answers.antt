@@ -11,6 +11,7 @@ use Rattle.workbench.proofs.Benches as benches
 use Rattle.workbench.proofs.Choice as choice
 use Rattle.proof_steps.specs.Classes.{HaveOwnClasses}
 use Rattle.triangular.proofs.Beside as beside
+use Rattle.workbench.proofs.Opened as opened
 use Rattle.wang_split.proofs.Concluded as concluded
 use Rattle.wang_split.proofs.concluding.solved.Goals as goal
 
@@ -26,7 +27,7 @@ reduce_conclusions-requires-clause-own g c =
     let s = g.S.TermStore.state c.args.s.now in
     let b = c.args.bench.now in
     let list = c.deref-2.ensures.value ∙ c.in_ok-eqs.ensures ∙ ap (map poly_of) c.deref.ensures.value in
-    let E = ap (map (polynomial_at s)) list ∙ sym (beside.held-eqs s b.eqs.items) in
+    let E = ap (map (polynomial_at s)) list ∙ sym (opened.held-eqs s b.eqs.items) in
     subst HaveOwnClasses (sym E) (concluded.own (node_at s b) c.requires.due)
 
 pub reduce_conclusions-requires-clause-room : goal.reduce_conclusions-requires-clause-room
@@ -60,7 +61,7 @@ returns-clause-rests g c =
     let chain = c.from_vec-chain.result in
     let status = c.in_ok-chain.status in
     let list = c.deref-2.ensures.value ∙ c.in_ok-eqs.ensures ∙ ap (map poly_of) c.deref.ensures.value in
-    let E : map (polynomial_at s) c.deref-2.result.now ≡ here.eqs = ap (map (polynomial_at s)) list ∙ sym (beside.held-eqs s b.eqs.items) in
+    let E : map (polynomial_at s) c.deref-2.result.now ≡ here.eqs = ap (map (polynomial_at s)) list ∙ sym (opened.held-eqs s b.eqs.items) in
     let size = c.requires.stands.size in
     let enough : size_of here ≤ b.fuel = (let e = c.requires.stands.fuel in omega (arith, size, e)) in
     let made : ◌≡◌ {A = List ChainStep × LeafStatus} (chain, status) (chain_of here.eqs cons (b.fuel - size_of here)) =

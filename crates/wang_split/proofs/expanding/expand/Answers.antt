@@ -7,6 +7,7 @@ use Rattle.proof_steps.specs.Trees.{expansion_of}
 use Rattle.proof_steps.specs.declared.piece.Node.{Node}
 use Rattle.triangular.proofs.Beside as beside
 use Rattle.wang_split.proofs.expanding.expand.Goals as goal
+use Rattle.proof_steps.specs.declared.version.TheConstants.{VERSION}
 
 pub finish-expanded-requires-clause-stands : goal.finish-expanded-requires-clause-stands
 finish-expanded-requires-clause-stands g c = (benches.turn _ _ _ c.in_ok-bench.bench c.in_ok-bench.ensures.opened.stands (owning.keeps-self _)).stands
@@ -36,8 +37,8 @@ returns-clause-kept g c =
 
 pub returns-clause-piece : goal.returns-clause-piece
 returns-clause-piece g c =
-    beside.ok-map _ _ c.finish-expanded.result (λ e r. r.0 ∙ ap (λ (m : Node). (expansion_of 1 c.args.cons.now m).0) c.in_ok-bench.ensures.opened.node) c.finish-expanded.ensures.rests
+    beside.ok-map _ _ c.finish-expanded.result (λ e r. r.0 ∙ ap (λ (m : Node). (expansion_of VERSION c.args.cons.now m).0) c.in_ok-bench.ensures.opened.node) c.finish-expanded.ensures.rests
 
 pub returns-clause-children : goal.returns-clause-children
 returns-clause-children g c =
-    beside.ok-map _ _ c.finish-expanded.result (λ e r. r.1 ∙ ap (λ (m : Node). (expansion_of 1 c.args.cons.now m).1) c.in_ok-bench.ensures.opened.node) c.finish-expanded.ensures.rests
+    beside.ok-map _ _ c.finish-expanded.result (λ e r. r.1 ∙ ap (λ (m : Node). (expansion_of VERSION c.args.cons.now m).1) c.in_ok-bench.ensures.opened.node) c.finish-expanded.ensures.rests

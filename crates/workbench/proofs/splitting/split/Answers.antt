@@ -19,7 +19,7 @@ use Rattle.workbench.proofs.splitting.split.Goals as goal
 
 pub primitive_initial-initial-requires-clause-p : goal.primitive_initial-initial-requires-clause-p
 primitive_initial-initial-requires-clause-p g c =
-    benches.equation-poly _ _ _ c.args.bench.now _ c.index.result.now c.requires.stands (tried.split-place (g.S.TermStore.state c.args.s.now) c.args.bench.now c.args.f c.requires.valid) c.index.ensures
+    benches.equation-poly _ _ _ c.args.bench.now _ c.index.result.now c.requires.stands (tried.split-place c.args.version (g.S.TermStore.state c.args.s.now) c.args.bench.now c.args.f c.requires.valid) c.index.ensures
 
 pub primitive_initial-initial-requires-clause-room : goal.primitive_initial-initial-requires-clause-room
 primitive_initial-initial-requires-clause-room g c = let e = benches.room-left _ _ c.args.bench.now c.requires.stands in let r = c.requires.room in omega (arith, e, r)
@@ -27,7 +27,7 @@ primitive_initial-initial-requires-clause-room g c = let e = benches.room-left _
 pub primitive_tail-tail-requires-clause-p : goal.primitive_tail-tail-requires-clause-p
 primitive_tail-tail-requires-clause-p g c =
     benches.poly-within (g.S.TermStore.state c.args.s.now) (g.S.TermStore.state c.primitive_initial-initial.new.s) c.index.result.now.poly (owning.within-makes _ _ _ c.primitive_initial-initial.ensures.makes)
-    (benches.equation-poly _ _ _ c.args.bench.now _ c.index.result.now c.requires.stands (tried.split-place (g.S.TermStore.state c.args.s.now) c.args.bench.now c.args.f c.requires.valid) c.index.ensures)
+    (benches.equation-poly _ _ _ c.args.bench.now _ c.index.result.now c.requires.stands (tried.split-place c.args.version (g.S.TermStore.state c.args.s.now) c.args.bench.now c.args.f c.requires.valid) c.index.ensures)
 
 pub primitive_tail-tail-requires-clause-class : goal.primitive_tail-tail-requires-clause-class
 primitive_tail-tail-requires-clause-class g c =
@@ -35,9 +35,9 @@ primitive_tail-tail-requires-clause-class g c =
     let b = c.args.bench.now in
     let x = c.index.result.now in
     let one = owning.within-makes s (g.S.TermStore.state c.primitive_initial-initial.new.s) _ c.primitive_initial-initial.ensures.makes in
-    let place = tried.split-place s b c.args.f c.requires.valid in
+    let place = tried.split-place c.args.version s b c.args.f c.requires.valid in
     let there = benches.live-place s b.eqs.items _ (c.args.f - 1) x (benches.bench-live _ s _ b c.requires.stands) place c.index.ensures in
-    ap (λ l. is_constant (polynomial_of l)) (one (slot_of x.poly) there).1 ∙ tried.split-class s b c.args.f x c.requires.valid place c.index.ensures
+    ap (λ l. is_constant (polynomial_of l)) (one (slot_of x.poly) there).1 ∙ tried.split-class c.args.version s b c.args.f x c.requires.valid place c.index.ensures
 
 pub primitive_tail-tail-requires-clause-room : goal.primitive_tail-tail-requires-clause-room
 primitive_tail-tail-requires-clause-room g c =
@@ -113,12 +113,12 @@ returns-clause-parts g c =
     let two = owning.within-makes t u _ c.primitive_tail-tail.ensures.makes in
     let live = benches.bench-live _ s _ b c.requires.stands in
     let node = benches.node-within s u b (owning.within-then s t u one two) live in
-    let place = tried.split-place s b c.args.f c.requires.valid in
+    let place = tried.split-place c.args.version s b c.args.f c.requires.valid in
     let here = benches.equation-at s b.eqs.items (c.args.f - 1) x place c.index.ensures in
     let there = benches.live-place s b.eqs.items _ (c.args.f - 1) x live place c.index.ensures in
     let j : polynomial_at u c.primitive_initial-initial.result ≡ primitive_initial (held_at s x) =
     ap polynomial_of (two (slot_of c.primitive_initial-initial.result) (making.makes-live s t _ c.primitive_initial-initial.ensures.makes)).1 ∙ c.primitive_initial-initial.ensures.value in
     let r : polynomial_at u c.primitive_tail-tail.result ≡ primitive_tail (held_at s x) = c.primitive_tail-tail.ensures.value ∙ ap (λ l. primitive_tail (polynomial_of l)) (one (slot_of x.poly) there).1 in
     let deep : length b.path ≢ MOST_LETTERS = λ e. c.if-len-eq-MOST_LETTERS.false (c.len.ensures.len ∙ e) in
-    tried.split-parts (node_at s b) c.args.f (polynomial_at u c.primitive_initial-initial.result) (polynomial_at u c.primitive_tail-tail.result) c.children-parting.result (j ∙ ap primitive_initial here) (r ∙ ap primitive_tail here) deep
+    tried.split-parts c.args.version (node_at s b) c.args.f (polynomial_at u c.primitive_initial-initial.result) (polynomial_at u c.primitive_tail-tail.result) c.children-parting.result (j ∙ ap primitive_initial here) (r ∙ ap primitive_tail here) deep
     (subst (λ n. IfOk c.children-parting.result (λ p. PartedBy n (c.args.f - 1) (polynomial_at u c.primitive_initial-initial.result) (polynomial_at u c.primitive_tail-tail.result) p)) node c.children-parting.ensures)

@@ -10,21 +10,10 @@ use Rattle.workbench.proofs.taking.cut.Goals as goal
 
 pub primitive_tail-r-requires-clause-p : goal.primitive_tail-r-requires-clause-p
 primitive_tail-r-requires-clause-p g c =
-    benches.equation-poly _ _ _ c.args.bench.now _ c.index.result.now c.requires.stands (tried.tail-place (g.S.TermStore.state c.args.s.now) c.args.bench.now c.args.f c.requires.valid) c.index.ensures
+    benches.equation-poly _ _ _ c.args.bench.now _ c.index.result.now c.requires.stands (tried.tail-place c.args.version (g.S.TermStore.state c.args.s.now) c.args.bench.now c.args.f c.requires.valid) c.index.ensures
 
 pub primitive_tail-r-requires-clause-room : goal.primitive_tail-r-requires-clause-room
 primitive_tail-r-requires-clause-room g c = let e = benches.room-left _ _ c.args.bench.now c.requires.stands in let r = c.requires.room in omega (arith, e, r)
-
-pub copy_out-requires : goal.copy_out-requires
-copy_out-requires g c = benches.gives-poly _ _ _ _ c.primitive_tail-r.ensures
-
-pub give_up-requires : goal.give_up-requires
-give_up-requires g c = making.makes-live _ _ _ c.primitive_tail-r.ensures.makes
-
-pub returns-in-Err : goal.returns-in-Err
-returns-in-Err g c =
-    (benches.kept _ _ _ c.args.bench.now c.requires.stands
-    (making.makes-freed _ (g.S.TermStore.state c.primitive_tail-r.new.s) _ _ c.primitive_tail-r.ensures.makes c.give_up.ensures.lists c.give_up.ensures.spare)).stands
 
 pub settle-requires-clause-stands : goal.settle-requires-clause-stands
 settle-requires-clause-stands g c = (benches.beside _ _ _ c.args.bench.now _ c.requires.stands c.primitive_tail-r.ensures.makes).stands
@@ -45,10 +34,10 @@ returns-then-settle g c =
     let k = c.settle.new.bench in
     let r = c.primitive_tail-r.result in
     let p = primitive_tail (polynomial_at s c.index.result.now.poly) in
-    let is = ap primitive_tail (benches.equation-at s b.eqs.items (c.args.f - 1) c.index.result.now (tried.tail-place s b c.args.f c.requires.valid) c.index.ensures) in
+    let is = ap primitive_tail (benches.equation-at s b.eqs.items (c.args.f - 1) c.index.result.now (tried.tail-place c.args.version s b c.args.f c.requires.valid) c.index.ensures) in
     let put = benches.settled (beneath s b) s t u b k r p (c.args.f - 1) true c.requires.stands c.primitive_tail-r.ensures.makes c.primitive_tail-r.ensures.value
     (subst (λ z. Settled (without t (slot_of r ∷ slots_of b)) u k z (node_at t b) (put_at (node_at t b) (c.args.f - 1) (polynomial_at t r))) c.if-settle.true c.settle.ensures) in
-    tried.tail-put (beneath s b) u k (node_at s b) c.args.f p c.in-Ok.copy is (c.in-Ok.ensures ∙ c.primitive_tail-r.ensures.value) put
+    tried.tail-put c.args.version (beneath s b) u k (node_at s b) c.args.f p is put
 
 pub returns-else-settle : goal.returns-else-settle
 returns-else-settle g c =
@@ -59,7 +48,7 @@ returns-else-settle g c =
     let k = c.settle.new.bench in
     let r = c.primitive_tail-r.result in
     let p = primitive_tail (polynomial_at s c.index.result.now.poly) in
-    let is = ap primitive_tail (benches.equation-at s b.eqs.items (c.args.f - 1) c.index.result.now (tried.tail-place s b c.args.f c.requires.valid) c.index.ensures) in
+    let is = ap primitive_tail (benches.equation-at s b.eqs.items (c.args.f - 1) c.index.result.now (tried.tail-place c.args.version s b c.args.f c.requires.valid) c.index.ensures) in
     let put = benches.settled (beneath s b) s t u b k r p (c.args.f - 1) false c.requires.stands c.primitive_tail-r.ensures.makes c.primitive_tail-r.ensures.value
     (subst (λ z. Settled (without t (slot_of r ∷ slots_of b)) u k z (node_at t b) (put_at (node_at t b) (c.args.f - 1) (polynomial_at t r))) c.if-settle.false c.settle.ensures) in
-    tried.tail-short (beneath s b) u k (node_at s b) c.args.f p is put
+    tried.tail-short c.args.version (beneath s b) u k (node_at s b) c.args.f p is put

@@ -14,23 +14,23 @@ use Rattle.workbench.proofs.taking.reduce.Goals as goal
 
 pub red_step-requires-clause-g : goal.red_step-requires-clause-g
 red_step-requires-clause-g g c =
-    let v = taking.red-places (g.S.TermStore.state c.args.s.now) c.args.bench.now c.args.g c.args.f c.requires.valid in
+    let v = taking.red-places c.args.version (g.S.TermStore.state c.args.s.now) c.args.bench.now c.args.g c.args.f c.requires.valid in
     benches.equation-poly _ _ _ c.args.bench.now _ c.index.result.now c.requires.stands v.0 c.index.ensures
 
 pub red_step-requires-clause-f : goal.red_step-requires-clause-f
 red_step-requires-clause-f g c =
-    let v = taking.red-places (g.S.TermStore.state c.args.s.now) c.args.bench.now c.args.g c.args.f c.requires.valid in
+    let v = taking.red-places c.args.version (g.S.TermStore.state c.args.s.now) c.args.bench.now c.args.g c.args.f c.requires.valid in
     benches.equation-poly _ _ _ c.args.bench.now _ c.index-by.result.now c.requires.stands v.1 c.index-by.ensures
 
 pub overflow_sub-by : goal.overflow_sub-by
-overflow_sub-by g c = (taking.red-place _ (g.S.TermStore.state c.args.s.now) c.args.bench.now c.args.g c.args.f c.index-by.result.now c.requires.stands c.requires.valid c.index-by.ensures).0
+overflow_sub-by g c = (taking.red-place c.args.version _ (g.S.TermStore.state c.args.s.now) c.args.bench.now c.args.g c.args.f c.index-by.result.now c.requires.stands c.requires.valid c.index-by.ensures).0
 
 pub red_step-requires-clause-class : goal.red_step-requires-clause-class
-red_step-requires-clause-class g c = (taking.red-place _ (g.S.TermStore.state c.args.s.now) c.args.bench.now c.args.g c.args.f c.index-by.result.now c.requires.stands c.requires.valid c.index-by.ensures).1
+red_step-requires-clause-class g c = (taking.red-place c.args.version _ (g.S.TermStore.state c.args.s.now) c.args.bench.now c.args.g c.args.f c.index-by.result.now c.requires.stands c.requires.valid c.index-by.ensures).1
 
 pub red_step-requires-clause-reaches : goal.red_step-requires-clause-reaches
 red_step-requires-clause-reaches g c =
-    taking.red-reaches (g.S.TermStore.state c.args.s.now) c.args.bench.now c.args.g c.args.f c.index.result.now c.index-by.result.now c.requires.valid c.index.ensures c.index-by.ensures
+    taking.red-reaches c.args.version (g.S.TermStore.state c.args.s.now) c.args.bench.now c.args.g c.args.f c.index.result.now c.index-by.result.now c.requires.valid c.index.ensures c.index-by.ensures
 
 pub red_step-requires-clause-room : goal.red_step-requires-clause-room
 red_step-requires-clause-room g c = let e = benches.room-left _ _ c.args.bench.now c.requires.stands in let r = c.requires.room in omega (arith, e, r)
@@ -39,22 +39,11 @@ pub returns-in-Err : goal.returns-in-Err
 returns-in-Err g c =
     let s = g.S.TermStore.state c.args.s.now in
     let x = taking.reduces-err _ _ _ _ c.in-Err.ensures.answer in (
-      taking.red-limit (node_at s c.args.bench.now) c.args.g c.args.f c.in-Err.limit
-          (taking.red-whole s c.args.bench.now c.args.g c.args.f c.index.result.now c.index-by.result.now _ c.requires.valid c.index.ensures c.index-by.ensures x.0)
+      taking.red-limit c.args.version (node_at s c.args.bench.now) c.args.g c.args.f c.in-Err.limit
+          (taking.red-whole c.args.version s c.args.bench.now c.args.g c.args.f c.index.result.now c.index-by.result.now _ c.requires.valid c.index.ensures c.index-by.ensures x.0)
           ∙ ap Some (sym c.reason.ensures),
       benches.kept _ _ _ c.args.bench.now c.requires.stands x.1,
     )
-
-pub copy_out-requires : goal.copy_out-requires
-copy_out-requires g c = benches.gives-poly _ _ _ _ (taking.reduces-ok _ _ _ _ c.in-Ok.ensures.answer).gives
-
-pub give_up-requires : goal.give_up-requires
-give_up-requires g c = making.makes-live _ _ _ (taking.reduces-ok _ _ _ _ c.in-Ok.ensures.answer).gives.makes
-
-pub returns-in-Err-copy_out : goal.returns-in-Err-copy_out
-returns-in-Err-copy_out g c =
-    (benches.kept _ _ _ c.args.bench.now c.requires.stands
-    (making.makes-freed _ (g.S.TermStore.state c.red_step.new.s) _ _ (taking.reduces-ok _ _ _ _ c.in-Ok.ensures.answer).gives.makes c.give_up.ensures.lists c.give_up.ensures.spare)).stands
 
 pub settle-requires-clause-stands : goal.settle-requires-clause-stands
 settle-requires-clause-stands g c = (benches.beside _ _ _ c.args.bench.now _ c.requires.stands (taking.reduces-ok _ _ _ _ c.in-Ok.ensures.answer).gives.makes).stands
@@ -75,12 +64,12 @@ returns-then-settle g c =
     let k = c.settle.new.bench in
     let r = c.in-Ok.reduced in
     let x = taking.reduces-ok s t r _ c.in-Ok.ensures.answer in
-    let whole = taking.red-whole s b c.args.g c.args.f c.index.result.now c.index-by.result.now (Ok x.value) c.requires.valid c.index.ensures c.index-by.ensures x.is in
+    let whole = taking.red-whole c.args.version s b c.args.g c.args.f c.index.result.now c.index-by.result.now (Ok x.value) c.requires.valid c.index.ensures c.index-by.ensures x.is in
     let base = beneath s b in
     let put = benches.settled base s t u b k r.1 x.value.1 (c.args.g - 1) true c.requires.stands x.gives.makes x.gives.value
     (subst (λ z. Settled (without t (slot_of r.1 ∷ slots_of b)) u k z (node_at t b) (put_at (node_at t b) (c.args.g - 1) (polynomial_at t r.1))) c.if-settle.true c.settle.ensures) in
     let fits : SFits w128 r.0 = (let z = c.in-Ok.ensures.size in omega (arith, ints, z)) in
-    taking.red-put base u k (node_at s b) c.args.g c.args.f x.value _ c.in-Ok-copy_out.copy whole (taking.red-is base s b c.args.g c.args.f x.value c.requires.stands c.requires.valid whole) (to_z-of_z w128 r.0 fits ∙ x.number) (c.in-Ok-copy_out.ensures ∙ x.gives.value) put
+    taking.red-put c.args.version base u k (node_at s b) c.args.g c.args.f x.value _ whole (taking.red-is c.args.version base s b c.args.g c.args.f x.value c.requires.stands c.requires.valid whole) (to_z-of_z w128 r.0 fits ∙ x.number) put
 
 pub returns-else-settle : goal.returns-else-settle
 returns-else-settle g c =
@@ -91,8 +80,8 @@ returns-else-settle g c =
     let k = c.settle.new.bench in
     let r = c.in-Ok.reduced in
     let x = taking.reduces-ok s t r _ c.in-Ok.ensures.answer in
-    let whole = taking.red-whole s b c.args.g c.args.f c.index.result.now c.index-by.result.now (Ok x.value) c.requires.valid c.index.ensures c.index-by.ensures x.is in
+    let whole = taking.red-whole c.args.version s b c.args.g c.args.f c.index.result.now c.index-by.result.now (Ok x.value) c.requires.valid c.index.ensures c.index-by.ensures x.is in
     let base = beneath s b in
     let put = benches.settled base s t u b k r.1 x.value.1 (c.args.g - 1) false c.requires.stands x.gives.makes x.gives.value
     (subst (λ z. Settled (without t (slot_of r.1 ∷ slots_of b)) u k z (node_at t b) (put_at (node_at t b) (c.args.g - 1) (polynomial_at t r.1))) c.if-settle.false c.settle.ensures) in
-    taking.red-short base u k (node_at s b) c.args.g c.args.f x.value whole (taking.red-is base s b c.args.g c.args.f x.value c.requires.stands c.requires.valid whole) put
+    taking.red-short c.args.version base u k (node_at s b) c.args.g c.args.f x.value whole (taking.red-is c.args.version base s b c.args.g c.args.f x.value c.requires.stands c.requires.valid whole) put

@@ -1,7 +1,8 @@
 use Rattle.std.proofs.Common.{◌+◌, sym, ◌∙◌, ap, refl, subst, arith, ◌∷◌, [], ◌++◌, length-append, append_assoc, Err}
+use Rattle.proof_log.specs.Settings.{unsettled, is_of, setting_after}
 use Rattle.proof_log.specs.Grammar.{Refuses}
 use Rattle.proof_log.specs.Text.{names_after, text_of, IsLine}
-use Rattle.proof_log.proofs.Held.{behind_lines, next_text, refuses_line, names_snoc, lines_snoc}
+use Rattle.proof_log.proofs.Held.{behind_lines, next_text, refuses_line, names_snoc, lines_snoc, setting_snoc, own_snoc}
 use Rattle.proof_log.proofs.Logs.{run_snoc}
 use Rattle.proof_log.proofs.Pieced.{starved}
 use Rattle.proof_log.proofs.reader.LogReader.end_line.Goals as goal
@@ -23,6 +24,8 @@ returns-in-Ok-push-clause-line c bytes front fed unended =
         unended = fed.unended;
         lines = lines_snoc [] front l fed.lines (subst (λ v. IsLine v l) fed.names r.0);
         place = run_snoc c.args.self.now.place c.in-Ok.place front l fed.place r.2;
+        setting = c.after-setting.ensures ∙ ap (λ v. setting_after v l) fed.setting ∙ sym (setting_snoc unsettled front l);
+        own = own_snoc unsettled front l fed.own (ap (λ v. is_of v l) (sym fed.setting) ∙ r.3);
         names = c.names_after-vars.ensures ∙ ap (λ v. names_after v l) fed.names ∙ sym (names_snoc [] front l);
         count = let n = length-append front (l ∷ []) in let m = fed.count in omega (arith, n, m);
         well = fed.well;
@@ -36,7 +39,7 @@ returns-in-Err-Malformed-clause-line c bytes front fed unended =
       refl,
       record {
         refuses = subst (Refuses front) (append_assoc bytes c.args.text.now (10 ∷ []))
-            (refuses_line front (bytes ++ c.args.text.now) c.args.text.now c.args.self.now.vars c.args.self.now.place whole fed.names unended fed.lines fed.place
+            (refuses_line front (bytes ++ c.args.text.now) c.args.text.now c.args.self.now.vars c.args.self.now.setting c.args.self.now.place whole fed.names fed.setting unended fed.lines fed.own fed.place
             (c.in-Err-Malformed.ensures.refuses (ap Err c.in-Err-Malformed.field-0-is)));
         number = ap (λ n. n + 1) fed.count;
       },

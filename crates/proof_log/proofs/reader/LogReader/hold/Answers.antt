@@ -11,6 +11,8 @@ returns-clause-ok c bytes lines fed = record {
   lines = fed.lines;
   place = fed.place;
   names = fed.names;
+  setting = fed.setting;
+  own = fed.own;
   count = fed.count;
   well = fed.well;
 }

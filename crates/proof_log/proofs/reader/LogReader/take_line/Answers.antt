@@ -25,6 +25,8 @@ returns-clause-line c bytes ls fed =
       lines = h.lines;
       place = h.place;
       names = h.names;
+      setting = h.setting;
+      own = h.own;
       count = h.count;
       well = h.well;
     }) (subst IsUnended (sym taken) h.unended) in

@@ -4,10 +4,10 @@ use Rattle.term_store.specs.Changes.{Keeps}
 use Rattle.polynomials.specs.Held.{polynomial_at, slot_of}
 use Rattle.workbench.specs.Owned.{AreLive, without}
 use Rattle.workbench.specs.Standing.{AllTell, AreHeld, held_at}
-use Rattle.wang_split.specs.Copies.{Copied}
-use Rattle.wang_split.proofs.Copying as copying
-use Rattle.wang_split.proofs.Opened as opened
-use Rattle.wang_split.proofs.opening.open.Goals as goal
+use Rattle.workbench.specs.Copies.{Copied}
+use Rattle.workbench.proofs.Copying as copying
+use Rattle.workbench.proofs.Opened as opened
+use Rattle.workbench.proofs.opening.open.Goals as goal
 
 pub copy_all-requires-2 : goal.copy_all-requires-2
 copy_all-requires-2 g c =
@@ -154,5 +154,4 @@ returns-in-Ok-all_held-clause-opened g c =
       size = 4 + c.sizes.result + c.sizes-2.result;
     } n eqs first second (c.in-Ok-all_held.ensures.polys ∙ c.deref-3.ensures.value)
     (subst (λ l. AllTell (map (polynomial_at b) l) held.items (map (held_at b) held.items)) c.deref-2.ensures.value c.in-Ok-all_held.ensures.tell)
-    c.in-Ok-all_held.ensures.kept refl refl size c.requires.fuel c.requires.most c.requires.few
-    (let w = c.len-letters.ensures.within in let l = c.len-letters.ensures.len in omega (arith, w, l))
+    c.in-Ok-all_held.ensures.kept refl refl size c.requires.fuel c.requires.most

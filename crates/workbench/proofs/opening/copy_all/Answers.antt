@@ -3,9 +3,9 @@ use Rattle.term_store.specs.Changes.{Keeps}
 use Rattle.term_store.proofs.Making as making
 use Rattle.polynomials.specs.Held.{slot_of}
 use Rattle.workbench.specs.Owned.{AreLive, without}
-use Rattle.wang_split.proofs.Copying as copying
-use Rattle.wang_split.proofs.Copying.{Copying}
-use Rattle.wang_split.proofs.opening.copy_all.Goals as goal
+use Rattle.workbench.proofs.Copying as copying
+use Rattle.workbench.proofs.Copying.{Copying}
+use Rattle.workbench.proofs.opening.copy_all.Goals as goal
 
 pub give_up-requires : goal.give_up-requires
 give_up-requires g c = making.makes-live _ _ _ c.copy_in-p.ensures.makes

@@ -1,6 +1,6 @@
 use Rattle.std.proofs.Common.{◌≡◌, ◌+◌, length}
 use Rattle.proof_steps.specs.Rules.{sizes}
-use Rattle.wang_split.proofs.opening.sizes.Given as goal
+use Rattle.workbench.proofs.opening.sizes.Given as goal
 
 abbrev pub invariant-loop-first : goal.invariant-loop-first
 invariant-loop-first l = l.sum + sizes l.rest ≡ sizes l.ps

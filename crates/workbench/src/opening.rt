@@ -1,17 +1,21 @@
 // A node is brought into a store.
-ghost use Rattle.std.specs.Prelude.{◌≡◌, ◌≤◌, ◌+◌, IfOk, OnErr, length};
-ghost use Rattle.poly_model.specs.declared.limits.TheConstants.{ARITH_UNITS, EXPAND_UNITS, MOST_FUEL, MOST_HYPOTHESES};
+ghost use Rattle.std.specs.Prelude.{◌≡◌, ◌≤◌, ◌+◌, IfOk, OnErr};
+ghost use Rattle.poly_model.specs.declared.limits.TheConstants.{ARITH_UNITS, EXPAND_UNITS, MOST_FUEL};
 ghost use Rattle.proof_steps.specs.Rules.{size_of, sizes};
 ghost use Rattle.term_store.specs.Changes.{Keeps};
 ghost use Rattle.workbench.specs.Standing.{Becomes};
-ghost use Rattle.wang_split.specs.Copies.{Copied};
+ghost use Rattle.workbench.specs.Copies.{Copied};
 
-use poly_model::{MOST_LETTERS, OwnedPoly};
+use crate::bench::Bench;
+use crate::facts::all_held;
+use crate::lists::release_polys;
+use crate::parts::give_up;
+use poly_model::OwnedPoly;
 use polynomials::{Poly, copy_in};
 use proof_steps::Node;
 use std::alloc::{AllocError, Global};
 use term_store::TermStore;
-use workbench::{Bench, all_held, give_up, release_polys};
+
 
 /// Copies of these in the store.
 fn copy_all<S: TermStore>(
@@ -55,14 +59,10 @@ fn sizes(ps: &[OwnedPoly]) -> u32
 pub fn open<S: TermStore>(alloc: Global, s: &mut S, node: &Node) -> Result<Bench, AllocError>
     requires fuel { size_of node.now ≤ node.now.fuel }
     requires most { node.now.fuel ≤ MOST_FUEL }
-    requires few { length node.now.eqs + length node.now.nes
-        ≤ MOST_HYPOTHESES + length node.now.path }
     requires room { EXPAND_UNITS ≤ (S.state s.old).spare }
     ensures opened { IfOk result (λ b. Becomes (S.state s.old) (S.state s.new) b node.now) }
     ensures refused { OnErr result (Keeps (S.state s.old) (S.state s.new)) }
 {
-    let letters = node.path.len();
-    prove!(letters <= MOST_LETTERS);
     let size = 4 + sizes(node.eqs.as_slice()) + sizes(node.nes.as_slice());
     let nes = copy_all(alloc, s, node.nes.as_slice())?;
     let eqs = match copy_all(alloc, s, node.eqs.as_slice()) {

@@ -1,6 +1,6 @@
 use Rattle.std.proofs.Common.{length}
-use Rattle.wang_split.proofs.Copying.{Copying}
-use Rattle.wang_split.proofs.opening.copy_all.Given as goal
+use Rattle.workbench.proofs.Copying.{Copying}
+use Rattle.workbench.proofs.opening.copy_all.Given as goal
 
 abbrev pub invariant-loop-first : goal.invariant-loop-first
 invariant-loop-first g l = Copying (g.S.TermStore.state l.initial.s) (g.S.TermStore.state l.s) l.copies.items l.rest l.ps

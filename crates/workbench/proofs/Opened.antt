@@ -1,8 +1,7 @@
 -- A node whose polynomials were copied into a store stands there.
 use Rattle.std.proofs.Common.{◌≡◌, ◌+◌, ◌≤◌, ℕ, List, [], ◌∷◌, ◌++◌, length, map, refl, sym, ◌∙◌, ap, subst, arith}
-use Rattle.std.proofs.lemmas.List.{length-map}
 use Rattle.poly_model.specs.Polynomial.{Polynomial}
-use Rattle.poly_model.specs.declared.limits.TheConstants.{MOST_FUEL, MOST_HYPOTHESES, MOST_LETTERS}
+use Rattle.poly_model.specs.declared.limits.TheConstants.{MOST_FUEL}
 use Rattle.proof_steps.specs.Rules.{sizes, size_of}
 use Rattle.proof_steps.specs.declared.piece.Node.{Node}
 use Rattle.term_store.specs.States.{State, list_at}
@@ -17,8 +16,7 @@ use Rattle.workbench.proofs.Owning as owning
 use Rattle.workbench.proofs.Owning.{Within, units_at}
 use Rattle.workbench.proofs.Benches as benches
 use Rattle.workbench.proofs.Tests.{polynomial-length}
-use Rattle.triangular.proofs.Beside.{held-eqs}
-use Rattle.wang_split.specs.Copies.{Copied}
+use Rattle.workbench.specs.Copies.{Copied}
 
 -- ---- lists that are owned over others
 owns-append : (base mid t : State) (ks ls : List ℕ) → Owns mid t ks → Owns base mid ls → Owns base t (ks ++ ls)
@@ -46,6 +44,10 @@ copies-held s t ps qs c = record { live = owning.owned-live s t (map slot_of ps)
 pub copies-stay : (s a b : State) (ps eqs : List Poly) (qs E : List Polynomial) → Copied s a ps qs → Copied a b eqs E → AreHeld b ps
 copies-stay s a b ps eqs qs E c d = benches.held-within a b ps (owns-within a b (map slot_of eqs) d.owns) (copies-held s a ps qs c)
 
+pub held-eqs : (s : State) (hs : List Held) → map (held_at s) hs ≡ map (polynomial_at s) (map poly_of hs)
+held-eqs s [] = refl
+held-eqs s (h ∷ hs) = ap (λ l. held_at s h ∷ l) (held-eqs s hs)
+
 held-slots : (hs : List Held) → map held_slot hs ≡ map slot_of (map poly_of hs)
 held-slots [] = refl
 held-slots (h ∷ hs) = ap (λ l. held_slot h ∷ l) (held-slots hs)
@@ -53,15 +55,13 @@ held-slots (h ∷ hs) = ap (λ l. held_slot h ∷ l) (held-slots hs)
 -- ---- the node stands
 pub opened : (s a b d : State) (c : Bench) (n : Node) (eqs : List Poly) → Copied s a c.nes.items n.nes → Copied a b eqs n.eqs → map poly_of c.eqs.items ≡ eqs
     → AllTell (map (polynomial_at b) c.nes.items) c.eqs.items (map (held_at b) c.eqs.items) → Keeps b d
-    → c.path ≡ n.path → c.fuel ≡ n.fuel → c.size ≡ size_of n → size_of n ≤ n.fuel → n.fuel ≤ MOST_FUEL → length n.eqs + length n.nes ≤ MOST_HYPOTHESES + length n.path → length n.path ≤ MOST_LETTERS
+    → c.path ≡ n.path → c.fuel ≡ n.fuel → c.size ≡ size_of n → size_of n ≤ n.fuel → n.fuel ≤ MOST_FUEL
     → Becomes s d c n
-opened s a b d c n eqs first second polys tell k path fuel size enough most few letters =
+opened s a b d c n eqs first second polys tell k path fuel size enough most =
     let w = owns-within a b (map slot_of eqs) second.owns in
     let nes : map (polynomial_at b) c.nes.items ≡ n.nes = sym (benches.seen b a c.nes.items w (owning.owned-live s a _ first.owns)) ∙ first.same in
     let E : map (held_at b) c.eqs.items ≡ n.eqs = held-eqs b c.eqs.items ∙ ap (map (polynomial_at b)) polys ∙ second.same in
     let node : node_at b c ≡ n = λ i. record { path = path i; eqs = E i; nes = nes i; fuel = fuel i } in
-    let m : length (map (held_at b) c.eqs.items) ≡ length c.eqs.items = length-map c.eqs.items (held_at b) in
-    let l : length (map (polynomial_at b) c.nes.items) ≡ length c.nes.items = length-map c.nes.items (polynomial_at b) in
     let be = benches.kept s b d c (
     record {
       owns = owns-append s a b (map held_slot c.eqs.items) (map slot_of c.nes.items)
@@ -71,8 +71,6 @@ opened s a b d c n eqs first second polys tell k path fuel size enough most few 
       size = size ∙ ap size_of (sym node);
       fuel = omega (arith, size, enough, fuel);
       most = omega (arith, most, fuel);
-      few = omega (arith, few, letters, m, ap length E);
-      few_nes = omega (arith, few, letters, l, ap length nes);
     }
     ) k in
     record { stands = be.stands; node = be.node ∙ node }

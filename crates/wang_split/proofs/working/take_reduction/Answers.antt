@@ -1,0 +1,27 @@
+use Rattle.std.proofs.Common.{◌≡◌, ◌∙◌, ap, sym, subst}
+use Rattle.std.specs.Prelude.{Ok, Err}
+use mir.Syntax.{w128}
+use mir.Val.{SFits}
+use Rattle.std.proofs.lemmas.Int.{to_z-of_z}
+use Rattle.proof_steps.specs.Numbers.{item}
+use Rattle.proof_steps.specs.declared.version.TheConstants.{VERSION}
+use Rattle.proof_steps.specs.declared.piece.Node.{Node}
+use Rattle.workbench.specs.Standing.{beneath, node_at}
+use Rattle.workbench.specs.Taking.{Reduces}
+use Rattle.workbench.proofs.Owning as owning
+use Rattle.workbench.proofs.Benches as benches
+use Rattle.workbench.proofs.Putting as putting
+use Rattle.wang_split.proofs.Recorded as recorded
+use Rattle.wang_split.proofs.working.take_reduction.Goals as goal
+
+pub copy_equation-requires-clause-stands : goal.copy_equation-requires-clause-stands
+copy_equation-requires-clause-stands g c = (benches.turn _ _ _ c.reduce.new.bench c.in-Ok.ensures.1.1.stands (owning.keeps-self _)).stands
+
+pub copy_equation-requires-clause-has : goal.copy_equation-requires-clause-has
+copy_equation-requires-clause-has g c =
+    let s = g.S.TermStore.state c.args.s.now in
+    let b = c.args.bench.now in
+    putting.put-place _ _ c.reduce.new.bench (node_at s b) c.args.g _ _ c.in-Ok.ensures.1.1 (recorded.red-placed s b c.args.g c.args.f c.requires.valid).below
+
+pub copy_equation-requires-clause-some : goal.copy_equation-requires-clause-some
+copy_equation-requires-clause-some g c = (recorded.red-placed (g.S.TermStore.state c.args.s.now) c.args.bench.now c.args.g c.args.f c.requires.valid).low
