@@ -16,7 +16,7 @@ mod log;
 mod place;
 mod reader;
 mod setting;
-mod tail;
+mod rest;
 mod told;
 mod words;
 mod writing;
