@@ -103,7 +103,8 @@ fn rest_kind(word: LineWord) -> RestKind
         LineWord::Verdict => RestKind::Told,
         LineWord::Head | LineWord::Proves | LineWord::Prove => RestKind::Nothing,
         LineWord::Node | LineWord::Drop | LineWord::Close => RestKind::Nothing,
-        LineWord::Clash | LineWord::System | LineWord::Proved => RestKind::Nothing,
+        LineWord::Clash | LineWord::Void => RestKind::Nothing,
+        LineWord::System | LineWord::Proved => RestKind::Nothing,
         LineWord::Fuel => RestKind::Nothing,
         LineWord::Remainder | LineWord::Unreduced | LineWord::End => RestKind::Nothing,
     }

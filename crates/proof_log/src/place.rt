@@ -207,7 +207,8 @@ fn counted(place: Place, line: &LogLine) -> Option<Place>
         LogLine::Verdict(_) => if_whole(place, true),
         LogLine::End => { if place.left == 0 { Some(place) } else { None } }
         LogLine::Vars(_) | LogLine::Drop(_) | LogLine::Red { .. } => Some(place),
-        LogLine::Tail { .. } | LogLine::Eq(_) | LogLine::Ne(_) => Some(place),
+        LogLine::Tail { .. } | LogLine::Cancel { .. } => Some(place),
+        LogLine::Eq(_) | LogLine::Ne(_) => Some(place),
     }
 }
 

@@ -24,7 +24,9 @@ pub use lists::{release, release_held, release_polys};
 pub use opening::open;
 pub use order::{Next, due};
 pub use parts::{class_number, give_up, term_count};
-pub use powers::variable_of;
+pub use powers::{
+    cancels_in, divides, factor_number, variable_number, variable_of, without_variables,
+};
 pub use search::is_triangular;
 pub use splitting::{Parting, copy_conditions, copy_equations, factor, split};
 pub use taking::{cancel, cut, drop, reduce};

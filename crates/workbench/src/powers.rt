@@ -104,14 +104,21 @@ fn shares(terms: &[Term], exps: &[u8; MOST_VARIABLES]) -> bool
     false
 }
 
+/// The polynomial of the terms `q`, of a class, has one term, and a variable of it divides that of the terms `p`.
+pub fn cancels_in(class: u8, q: &[Term], p: &[Term]) -> bool
+    requires { class ≡ class_of (polynomial_of q.now) }
+    ensures { result ≡ cancels_in (polynomial_of q.now) (polynomial_of p.now) }
+{
+    class != 0 && q.len() == 1 && shares(p, &q[0].exps)
+}
+
 /// The condition has one term, and a variable of it divides the polynomial.
 pub fn cancels<S: TermStore>(s: &S, q: Poly, p: Poly) -> bool
     requires q { IsPoly (S.state s.now) q }
     requires p { IsPoly (S.state s.now) p }
     ensures { result ≡ cancels_in (polynomial_at (S.state s.now) q) (polynomial_at (S.state s.now) p) }
 {
-    let (terms, of) = (s.terms(q.slot()), s.terms(p.slot()));
-    class_number(s, q) != 0 && terms.len() == 1 && shares(of, &terms[0].exps)
+    cancels_in(class_number(s, q), s.terms(q.slot()), s.terms(p.slot()))
 }
 
 /// The number of the first condition that cancels in the polynomial of a class.

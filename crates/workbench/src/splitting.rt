@@ -199,7 +199,12 @@ fn children<S: TermStore>(
     let down = term_count(s, change.down);
     let more = more_size(s, change.more);
     let others = bench.size - bench.eqs[change.at].terms;
-    let shared = share(bench.fuel, terms, others + up + (1 + terms), others + down + more);
+    let shared = share(
+        bench.fuel,
+        terms,
+        others + up + (1 + terms),
+        others + down + more,
+    );
     let Some(fuels) = shared else {
         return Ok(Parting::Stopped(Reason::Fuel));
     };

@@ -137,7 +137,7 @@ returns-clause-parts g c =
     c.primitive_tail-down.ensures.value ∙ ap (λ l. primitive_tail (polynomial_of l)) (one (slot_of x.poly) there).1 ∙ ap primitive_tail here in
     let deep : length b.path ≢ MOST_LETTERS = λ e. c.if-len-eq-MOST_LETTERS.false (c.len.ensures.len ∙ e) in
     let same : pair (node_at u b) i (polynomial_at u c.primitive_initial-gain.result) (polynomial_at u x.poly) (polynomial_at u c.primitive_tail-down.result) (polynomial_at u c.primitive_initial-gain.result ∷ [])
-        ≡ split_children n c.args.f =
+    ≡ split_children n c.args.f =
     (λ k. pair (node k) i (gain k) (up k) (down k) (gain k ∷ []))
     ∙ ap (λ E. parted n (primitive_initial (item n.eqs c.args.f)) E (set n.eqs i (primitive_tail (item n.eqs c.args.f)) ++ primitive_initial (item n.eqs c.args.f) ∷ [])) (set-get_or n.eqs i [])
     in
