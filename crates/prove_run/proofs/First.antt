@@ -55,7 +55,7 @@ lists-first p = first-append (map line.Eq p.eqs) (map line.Ne p.nes) (polynomial
 
 pub head-first : (version n : ℕ) (rest : List LogLine) → AreFirst rest → AreFirst (line.Head version ∷ line.Proves n ∷ rest)
 unfolding AreFirst
-head-first version n rest h = (refl, refl, h)
+head-first version n rest h = (refl, (refl, h))
 
 -- ---- the rules of a version without those of the second
 module _ (version : ℕ) (old : has_second version ≡ false) where
@@ -122,11 +122,10 @@ module _ (version : ℕ) (old : has_second version ≡ false) where
       let cons = polynomials-first line.Con (λ q. refl) p.problem.cons in
       let root = root_of p.problem fuel in
       let trees = (and_parts (nat_le (size_of root) fuel) (are_trees version p.problem.cons (root ∷ []) p.tree.pieces) a.0.tree).1 in
-      let proof : AreFirst (proof_lines k p) = (
-        refl,
-        refl,
-        first-append (map line.Hyp p.problem.hyps ++ map line.Con p.problem.cons) (flat_map piece_lines p.tree.pieces ++ line.Verdict p.verdict ∷ [])
-            (first-append (map line.Hyp p.problem.hyps) (map line.Con p.problem.cons) hyps cons)
-            (first-append (flat_map piece_lines p.tree.pieces) (line.Verdict p.verdict ∷ []) (pieces-first p.problem.cons (root ∷ []) p.tree.pieces trees) (refl, tt)),
-      ) in
+      let behind =
+      first-append (map line.Hyp p.problem.hyps ++ map line.Con p.problem.cons) (flat_map piece_lines p.tree.pieces ++ line.Verdict p.verdict ∷ [])
+      (first-append (map line.Hyp p.problem.hyps) (map line.Con p.problem.cons) hyps cons)
+      (first-append (flat_map piece_lines p.tree.pieces) (line.Verdict p.verdict ∷ []) (pieces-first p.problem.cons (root ∷ []) p.tree.pieces trees) (refl, tt))
+      in
+      let proof : AreFirst (proof_lines k p) = (refl, (refl, behind)) in
       subst AreFirst (sym (append_assoc (proof_lines k p) (proofs_lines (suc k) ps) (line.End ∷ []))) (first-append (proof_lines k p) _ proof (proofs-first fuel (suc k) ps a.1))

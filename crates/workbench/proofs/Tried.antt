@@ -224,7 +224,7 @@ cancel-some version s b g q x v at none =
     let is : item n.eqs g ≡ [] = sym (equation-at s b.eqs.items (g - 1) x (cancel-places version s b g q v).0 at) ∙ none in
     let h : true ≡ false = sym (ap is_constant is) ∙ some in cc
 
-one-term : (q p : Polynomial) → shares_variable 0 (one_monomial q) p ≡ true → length q ≡ 1
+pub one-term : (q p : Polynomial) → shares_variable 0 (one_monomial q) p ≡ true → length q ≡ 1
 one-term [] p h = cc
 one-term ((es, c) ∷ []) p h = refl
 one-term ((es, c) ∷ f ∷ q) p h = cc
