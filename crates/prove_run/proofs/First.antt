@@ -66,13 +66,12 @@ proof-first : (k : ℕ) (p : Proof) → AreFirst (proof_lines k p)
 unfolding AreFirst
 proof-first k p =
     let hyps = polynomials-first line.Hyp (λ q. refl) p.problem.hyps in
-    let cons = polynomials-first line.Con (λ q. refl) p.problem.cons in (
-      refl,
-      refl,
-      first-append (map line.Hyp p.problem.hyps ++ map line.Con p.problem.cons) (flat_map piece_lines p.tree.pieces ++ line.Verdict p.verdict ∷ [])
-          (first-append (map line.Hyp p.problem.hyps) (map line.Con p.problem.cons) hyps cons)
-          (first-append (flat_map piece_lines p.tree.pieces) (line.Verdict p.verdict ∷ []) (pieces-first p.tree.pieces) (refl, tt)),
-    )
+    let cons = polynomials-first line.Con (λ q. refl) p.problem.cons in
+    let behind =
+    first-append (map line.Hyp p.problem.hyps ++ map line.Con p.problem.cons) (flat_map piece_lines p.tree.pieces ++ line.Verdict p.verdict ∷ [])
+    (first-append (map line.Hyp p.problem.hyps) (map line.Con p.problem.cons) hyps cons)
+    (first-append (flat_map piece_lines p.tree.pieces) (line.Verdict p.verdict ∷ []) (pieces-first p.tree.pieces) (refl, tt))
+    in (refl, (refl, behind))
 
 pub proofs-first : (k : ℕ) (ps : List Proof) → AreFirst (proofs_lines k ps ++ line.End ∷ [])
 unfolding AreFirst proofs_lines
@@ -82,4 +81,4 @@ proofs-first k (p ∷ ps) =
 
 pub head-first : (version n : ℕ) (rest : List LogLine) → AreFirst rest → AreFirst (line.Head version ∷ line.Proves n ∷ rest)
 unfolding AreFirst
-head-first version n rest h = (refl, refl, h)
+head-first version n rest h = (refl, (refl, h))
