@@ -94,7 +94,7 @@ one-is (x ∷ []) t e at = ap (λ y. entry_of y ∷ []) (sym at)
 one-is (x ∷ y ∷ xs) t e at = absurd (omega (arith, e))
 
 -- the variable at a place is one
-pub variable-is : (n i : ℕ) (p : Polynomial) → p ≡ poly_variable n i → length (set (replicate n 0) i 1) ≡ n → class_of p ≡ suc i → is_variable p ≡ true
+pub variable-is : (n i : ℕ) (p : Polynomial) → p ≡ poly_variable n i → length {A = ℕ} (set (replicate n 0) i 1) ≡ n → class_of p ≡ suc i → is_variable p ≡ true
 variable-is n i p is long class =
     let place : main_place p ≡ i = omega (arith, class) in
     let some : not (is_constant p) ≡ true = not_from_false (is_constant p) (ne_eqb (class_of p) 0 (λ z. omega (arith, class, z))) in

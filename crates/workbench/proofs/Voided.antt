@@ -55,13 +55,13 @@ void-from : (s : State) (b : Bench) (k : ℕ) (N : List Polynomial) → AllTell 
     → ((i : ℕ) → i < length N → item (node_at s b).nes (suc k + i) ≡ get_or N i []) → ((i : ℕ) → i < length N → has (node_at s b).nes (suc k + i) ≡ true)
     → unwrap_or (option_map (λ j. Voided j (unwrap_or (by_second (node_at s b) j) 0)) (first_from (λ j. is_some (by_second (node_at s b) j)) (length N) (suc k))) Solved
     ≡ void_next (voided_at s b.eqs.items (suc k) N)
-void-from s b k [] t at in = refl
-void-from s b k (q ∷ N) t at in =
+void-from s b k [] t at there = refl
+void-from s b k (q ∷ N) t at there =
     let n = node_at s b in
     let zeroth : suc k ≡ suc k + 0 = omega arith in
-    let one = void-one s b (suc k) q t (ap (has n.nes) zeroth ∙ in 0 (omega arith)) (ap (item n.nes) zeroth ∙ at 0 (omega arith)) in
+    let one = void-one s b (suc k) q t (ap (has n.nes) zeroth ∙ there 0 (omega arith)) (ap (item n.nes) zeroth ∙ at 0 (omega arith)) in
     let next : (i : ℕ) → suc (suc k) + i ≡ suc k + suc i = λ i. omega arith in
-    let rest = void-from s b (suc k) N t (λ i low. ap (item n.nes) (next i) ∙ at (suc i) (omega (arith, low))) (λ i low. ap (has n.nes) (next i) ∙ in (suc i) (omega (arith, low))) in
+    let rest = void-from s b (suc k) N t (λ i low. ap (item n.nes) (next i) ∙ at (suc i) (omega (arith, low))) (λ i low. ap (has n.nes) (next i) ∙ there (suc i) (omega (arith, low))) in
     by (voider_in s b.eqs.items q) one rest
   where
     whole : Option ℕ → Next

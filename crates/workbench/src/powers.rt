@@ -1,5 +1,5 @@
 // Variables that divide polynomials, and polynomials from which they are divided out.
-ghost use Rattle.std.specs.Prelude.{◌≡◌, ◌≢◌, ◌<◌, ◌≤◌, ◌-◌, ◌∷◌, [], IfOk, length, map};
+ghost use Rattle.std.specs.Prelude.{◌≡◌, ◌≢◌, ◌<◌, ◌≤◌, ◌+◌, ◌-◌, ◌∷◌, [], IfOk, length, map};
 ghost use Rattle.poly_model.specs.Polynomial.{poly_variable};
 ghost use Rattle.poly_model.specs.Powers.{is_divided, one_monomial, shares_variable, without_variables};
 ghost use Rattle.poly_model.specs.Reduction.{class_of};

@@ -72,9 +72,9 @@ returns-then-i-ne0-4-clause-next g c =
     let q : c.clashed-i.result ≡ searches.clashed_in (held_at s) (node_at s b).nes b.eqs.items =
     c.clashed-i.ensures.place ∙ (λ i. searches.clashed_in (held_at s) (map (polynomial_at s) (c.deref-4.ensures.value i)) (c.deref-3.ensures.value i)) in
     let a : c.cancelled-i.result ≡ searches.cancelled_in b.eqs.items = c.cancelled-i.ensures.place ∙ ap searches.cancelled_in c.deref-5.ensures.value in
-    let x = c.index-2.result.now in
+    let x = c.index-then-i-ne0-4.result.now in
     let below : c.cancelled-i.result - 1 < length b.eqs.items = (let l = ap length c.deref-5.ensures.value in let w = c.cancelled-i.ensures.within in let z = c.if-i-ne0-4.true in omega (arith, l, w, z)) in
-    choice.due-cancel s b t c.cancelled-i.result x.cancels x (sym d ∙ c.if-i-ne0.false) (sym n ∙ c.if-i-ne0-2.false) (sym q ∙ c.if-i-ne0-3.false) a c.if-i-ne0-4.true below c.index-2.ensures refl
+    choice.due-cancel s b t c.cancelled-i.result x.cancels x (sym d ∙ c.if-i-ne0.false) (sym n ∙ c.if-i-ne0-2.false) (sym q ∙ c.if-i-ne0-3.false) a c.if-i-ne0-4.true below c.index-then-i-ne0-4.ensures refl
 
 pub returns-then-i-ne0-5-clause-next : goal.returns-then-i-ne0-5-clause-next
 returns-then-i-ne0-5-clause-next g c =

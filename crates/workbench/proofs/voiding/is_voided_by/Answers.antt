@@ -14,20 +14,20 @@ use Rattle.workbench.proofs.voiding.is_voided_by.Goals as goal
 pub may_reduce-requires-clause-class : goal.may_reduce-requires-clause-class
 may_reduce-requires-clause-class g c = voids.class-place _ c.args.h.now c.requires.h c.requires.tells
 
-pub returns-then-may_reduce-clause-value : goal.returns-then-may_reduce-clause-value
-returns-then-may_reduce-clause-value g c =
+pub returns-then-not-may_reduce-clause-value : goal.returns-then-not-may_reduce-clause-value
+returns-then-not-may_reduce-clause-value g c =
     let s = g.S.TermStore.state c.args.s.now in
-    voids.not-reduced s c.args.h.now (polynomial_at s c.args.q) (sym c.may_reduce.ensures ∙ c.if-may_reduce.false)
+    voids.not-reduced s c.args.h.now (polynomial_at s c.args.q) (sym c.may_reduce.ensures ∙ c.if-not-may_reduce.true)
 
 pub red_step-requires-clause-class : goal.red_step-requires-clause-class
 red_step-requires-clause-class g c =
     let s = g.S.TermStore.state c.args.s.now in
-    voids.reducer-class s c.args.h.now (polynomial_at s c.args.q) c.requires.tells (sym c.may_reduce.ensures ∙ c.if-may_reduce.true)
+    voids.reducer-class s c.args.h.now (polynomial_at s c.args.q) c.requires.tells (sym c.may_reduce.ensures ∙ c.if-not-may_reduce.false)
 
 pub red_step-requires-clause-reaches : goal.red_step-requires-clause-reaches
 red_step-requires-clause-reaches g c =
     let s = g.S.TermStore.state c.args.s.now in
-    voids.reducer-reaches s c.args.h.now (polynomial_at s c.args.q) c.requires.tells (sym c.may_reduce.ensures ∙ c.if-may_reduce.true)
+    voids.reducer-reaches s c.args.h.now (polynomial_at s c.args.q) c.requires.tells (sym c.may_reduce.ensures ∙ c.if-not-may_reduce.false)
 
 pub returns-in-Err-clause-value : goal.returns-in-Err-clause-value
 returns-in-Err-clause-value g c =

@@ -1,0 +1,14 @@
+use Rattle.std.proofs.Common.{rules, ◌≡◌, ◌≢◌, ◌<◌, ◌≤◌, ◌+◌, ◌-◌, ◌∷◌, [], IfOk, length, map, ℕ, ◌*◌, ◌/◌, ◌%◌, Bool, true, false, nat_eq, nat_lt, List, ◌++◌, slice_index_or, slice_set, bit_and, bit_or, Fits, w8, w32, w64, Bor, MutBor}
+use Rattle.poly_model.specs.Polynomial.{poly_variable}
+use Rattle.poly_model.specs.Powers.{is_divided, one_monomial, shares_variable, without_variables}
+use Rattle.poly_model.specs.Reduction.{class_of}
+use Rattle.poly_model.specs.Standard.{polynomial_of}
+use Rattle.poly_model.specs.declared.limits.TheConstants.{ARITH_UNITS, MOST_VARIABLES, POLY_UNITS}
+use Rattle.polynomials.specs.Held.{Gives, IsPoly, polynomial_at}
+use Rattle.workbench.specs.Known.{all_have, cancel_number, cancels_in, factor_number, variable_number}
+use Rattle.workbench.specs.Standing.{AreHeld}
+use Rattle.workbench.proofs.powers.variable_of.Goals as goal
+
+-- src/powers.rt:64:19
+pub unreachable-requires : goal.unreachable-requires
+unreachable-requires c = ?
