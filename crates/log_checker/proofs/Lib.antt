@@ -8,8 +8,12 @@ pub mod Inside
 pub mod Fits
 mod Running
 mod Passes
+pub mod Paying
+mod Weights
+mod Feedings
 mod Tellings
 mod Assured
+pub mod Readings
 pub mod Exact
 mod Listing
 mod Dues
