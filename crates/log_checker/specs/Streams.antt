@@ -1,5 +1,5 @@
 -- What a checker knows of the bytes that it was fed so far.
-use Rattle.std.specs.Prelude.{◌≡◌, ◌≤◌, ◌×◌, ◌⊎◌, ℕ, List, ◌++◌, length, Bool, true, false, Option, Some, None, Err}
+use Rattle.std.specs.Prelude.{◌≡◌, ◌≤◌, ◌⊎◌, ℕ, List, ◌++◌, length, Bool, true, false, Option, Some, None, Err}
 use Rattle.proof_log.specs.Feeding.{Fed}
 use Rattle.proof_log.specs.Grammar.{Begins, IsUnended}
 use Rattle.proof_log.specs.declared.line.LogLine.{LogLine}

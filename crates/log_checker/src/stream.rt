@@ -1,7 +1,6 @@
 // A log that comes in pieces.
 ghost use Rattle.std.specs.Prelude.{◌≡◌, ◌≤◌, ◌+◌, ◌^◌, ◌++◌, [], ℕ, List, length, is_err, true, false, IfOk, IsErrOf, Some};
 ghost use Rattle.log_checker.specs.Checked.{Judged};
-ghost use Rattle.log_checker.specs.Streams.{IsChecked, IsHeld, is_memory, is_starved};
 
 use crate::checking::{Checked, Progress, check_piece};
 use crate::fault::CheckFault;
@@ -26,18 +25,20 @@ pub struct Checker {
     ghost few: { fed ≤ 2 ^ 30 },
 }
 
-/// Of a fault, the caller of `feed` is told want of memory alone.
-fn told(fault: CheckFault) -> Result<(), AllocError>
-    ensures { is_err result ≡ is_memory (Some fault) }
-{
-    match fault {
-        CheckFault::OutOfMemory => Err(AllocError),
-        CheckFault::ReadFault | CheckFault::TooLarge => Ok(()),
-        CheckFault::Malformed(_) | CheckFault::Rejected(_, _) => Ok(()),
-    }
-}
-
 impl Checker {
+    ghost use Rattle.log_checker.specs.Streams.{IsChecked, IsHeld, is_memory, is_starved};
+
+    /// Of a fault, the caller of `feed` is told want of memory alone.
+    fn told(fault: CheckFault) -> Result<(), AllocError>
+        ensures { is_err result ≡ is_memory (Some fault) }
+    {
+        match fault {
+            CheckFault::OutOfMemory => Err(AllocError),
+            CheckFault::ReadFault | CheckFault::TooLarge => Ok(()),
+            CheckFault::Malformed(_) | CheckFault::Rejected(_, _) => Ok(()),
+        }
+    }
+
     /// A checker at the start of a log.
     pub fn new(alloc: Global) -> Result<Checker, AllocError>
         ensures fed { IfOk result (λ c. c.fed ≡ 0) }
@@ -65,7 +66,7 @@ impl Checker {
     {
         self.fed += piece.len() as u32;
         if let Some(fault) = self.stop {
-            return told(fault);
+            return Self::told(fault);
         }
         match check_piece(
             self.alloc,
@@ -80,7 +81,7 @@ impl Checker {
             }
             Err(fault) => {
                 self.stop = Some(fault);
-                told(fault)
+                Self::told(fault)
             }
         }
     }
