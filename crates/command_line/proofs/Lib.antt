@@ -12,5 +12,7 @@ pub mod Words
 mod FileLogs
 mod Assured
 mod Figures
+pub mod Carrying
+mod CarriedFigures
 mod Headline
 pub mod Trials
