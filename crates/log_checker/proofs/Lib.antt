@@ -10,6 +10,7 @@ mod Running
 mod Passes
 mod Tellings
 mod Assured
+pub mod Readings
 pub mod Exact
 mod Listing
 mod Dues

@@ -1,5 +1,6 @@
 -- What the check of a log answers of its bytes.
-use Rattle.std.specs.Prelude.{◌≡◌, ◌<◌, ℕ, List, [], ◌∷◌, map, length, IsTrue, Result, Ok, Err}
+use Rattle.std.specs.Prelude.{◌≡◌, ◌<◌, ◌≤◌, ℕ, List, [], ◌∷◌, map, length, IfOk, IsTrue, Option, Result, Ok, Err}
+use Rattle.desk_io.specs.Files.{Files, Holds}
 use Rattle.poly_model.specs.Domain.{Operations}
 use Rattle.poly_model.specs.declared.limits.TheConstants.{MOST_LOG_BYTES}
 use Rattle.proof_steps.specs.declared.problem.Problem.{Problem}
@@ -42,6 +43,15 @@ FileJudged (Err fault.ReadFault) file = Unit {0}
 FileJudged (Err fault.TooLarge) file = MOST_LOG_BYTES < length file
 FileJudged (Err fault.OutOfMemory) file = Unit {0}
 
+-- An answer of bytes that were read: where something is found of them, they are no more than a file may have.
+abbrev pub ReadJudged : Result Checked CheckFault → List ℕ → Type 0
+ReadJudged (Ok checked) bytes = (length bytes ≤ MOST_LOG_BYTES) × Judged (Ok checked) bytes
+ReadJudged (Err (fault.Malformed n)) bytes = (length bytes ≤ MOST_LOG_BYTES) × Judged (Err (fault.Malformed n)) bytes
+ReadJudged (Err (fault.Rejected n word)) bytes = (length bytes ≤ MOST_LOG_BYTES) × Judged (Err (fault.Rejected n word)) bytes
+ReadJudged (Err fault.ReadFault) bytes = Unit {0}
+ReadJudged (Err fault.TooLarge) bytes = MOST_LOG_BYTES < length bytes
+ReadJudged (Err fault.OutOfMemory) bytes = Unit {0}
+
 -- ---- what an accepted log assures, whoever wrote it
 
 -- The claim of a verdict holds, and only the variables of the problem occur in it and in the problem.
@@ -69,3 +79,15 @@ pub record IsCovered {M : Type 0} (o : Operations M) (checked : Checked) (bytes 
   pub text : IsAcceptedText log bytes
   pub tells : Tells checked log
   pub covered : AllCovered o log
+
+-- ---- what is answered of a desk
+-- Bytes that were read under a name: where the desk tells its files, they are those of the file.
+abbrev pub AreOf : Option Files → List ℕ → List ℕ → Type 0
+AreOf held name bytes = (file : List ℕ) → Holds held name file → bytes ≡ file
+
+-- The answer is one of some bytes, which were read once, whether the desk tells its files or not; and these assure what is told.
+pub record ReadOnce {M : Type 0} (o : Operations M) (held : Option Files) (name : List ℕ) (result : Result Checked CheckFault) : Type 0 where
+  pub bytes : List ℕ
+  pub own : AreOf held name bytes
+  pub judged : ReadJudged result bytes
+  pub covered : IfOk result (λ checked. IsCovered o checked bytes)

@@ -2,7 +2,7 @@ ghost use Rattle.std.specs.Prelude.{◌≡◌, ◌≤◌, ◌<◌, ◌⊎◌, �
 ghost use Rattle.desk_io.specs.Causes.{Rose};
 ghost use Rattle.desk_io.specs.Files.{Holds, Lacks};
 ghost use Rattle.poly_model.specs.declared.limits.TheConstants.{MOST_LOG_BYTES};
-ghost use Rattle.log_checker.specs.Checked.{FileJudged, Judged, AreAssured, IsCovered};
+ghost use Rattle.log_checker.specs.Checked.{FileJudged, Judged, AreAssured, IsCovered, ReadOnce};
 
 use crate::checking::{Checked, check_bytes};
 use crate::fault::CheckFault;
@@ -29,13 +29,14 @@ pub fn check_text<D: Domain>(alloc: Global, domain: &D, text: &[u8]) -> Result<C
 
 /// Checks a log that anyone may have written: it is accepted, or its first line at fault is told.
 ///
-/// The domain is not used: the call tells what the verdicts mean in it.
+/// The log is read once, to its end. The domain is not used: the call tells what the verdicts mean in it.
 pub fn check_log<D: Domain, K: Desk>(
     alloc: Global,
     domain: &D,
     desk: &mut K,
     name: &str,
 ) -> Result<Checked, CheckFault>
+    ensures read { ReadOnce D.operations (K.held desk.old) name.now result }
     ensures judged { (file : List ℕ) → Holds (K.held desk.old) name.now file
         → FileJudged result file }
     ensures assured { IfOk result (λ checked. AreAssured D.operations checked.problems
