@@ -1,5 +1,5 @@
 -- Where a run that carries a figure is done, the figure meets what is written to hold.
-use Rattle.std.proofs.Common.{◌≡◌, ◌≤◌, ◌+◌, ℕ, List, [], ◌∷◌, ◌++◌, length, map, take, All, Result, Ok, Err, inl, inr, refl, sym, ◌∙◌, ap, subst}
+use Rattle.std.proofs.Common.{◌≡◌, ◌≤◌, ◌+◌, ℕ, List, [], ◌∷◌, ◌++◌, length, map, take, All, true, Result, Ok, Err, inl, inr, refl, sym, ◌∙◌, ap, subst}
 use Rattle.std.specs.Prelude.{ℤ, ◌⊎◌}
 use Rattle.poly_model.specs.Domain.{integers}
 use Rattle.gcl_reader.specs.Figure.{figure_of}

@@ -38,15 +38,15 @@ compared_with_one (Err refusal) log file a b p q = p ∙ sym q
 -- ---- carried figures
 carried_by_one : (posed : Posed) (f : Figure ℤ) (log : List ℕ) → AtMostOne (IsCarriedBy posed f log)
 carried_by_one posed f log a b p q =
-    both (subst (λ n. CarriedAnswer n a) (one_finding log p.finding q.finding p.found q.found) p.answer) q.answer where
+    both q.finding (subst (λ n. CarriedAnswer n a) (one_finding log p.finding q.finding p.found q.found) p.answer) q.answer where
       CarriedAnswer : Finding → Answer → Type 0
       CarriedAnswer n c = (HasProblems posed.stated n × (c ≡ carried_to posed.program.acts f n)) ⊎ ((HasProblems posed.stated n → ⊥) × (c ≡ other_problems))
 
-      both : {n : Finding} → CarriedAnswer n a → CarriedAnswer n b → a ≡ b
-      both (inl x) (inl y) = x.1 ∙ sym y.1
-      both (inl x) (inr y) = absurd (y.0 x.0)
-      both (inr x) (inl y) = absurd (x.0 y.0)
-      both (inr x) (inr y) = x.1 ∙ sym y.1
+      both : (n : Finding) → CarriedAnswer n a → CarriedAnswer n b → a ≡ b
+      both n (inl x) (inl y) = x.1 ∙ sym y.1
+      both n (inl x) (inr y) = absurd (y.0 x.0)
+      both n (inr x) (inl y) = absurd (x.0 y.0)
+      both n (inr x) (inr y) = x.1 ∙ sym y.1
 
 carried_for_one : (posed : Posed) (drawn : Result (Figure ℤ) Refusal) (log figure : List ℕ) → AtMostOne (IsCarriedFor posed drawn log figure)
 carried_for_one posed (Ok f) log figure a b p q = carried_by_one posed f log a b p q

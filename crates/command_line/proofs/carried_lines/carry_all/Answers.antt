@@ -1,6 +1,6 @@
 use Rattle.std.proofs.Common.{◌≡◌, ◌+◌, ◌++◌, ◌∙◌, [], ◌∷◌, ap, sym, arith, append_assoc}
 use Rattle.command_line.specs.Carrying.{all_carried}
-use Rattle.command_line.proofs.Carrying.{first_carried}
+use Rattle.command_line.proofs.CarryingFacts.{first_carried}
 use Rattle.command_line.proofs.carried_lines.carry_all.Goals as goal
 
 pub loop-problem-preserved : goal.loop-problem-preserved

@@ -1,5 +1,5 @@
 use Rattle.std.proofs.Common.{ap, refl, arith}
-use Rattle.command_line.proofs.Carrying.{carry_alone, log_then}
+use Rattle.command_line.proofs.CarryingFacts.{carry_alone, log_then}
 use Rattle.command_line.proofs.Dues.{passed_on}
 use Rattle.command_line.proofs.carry.carry_answered.Goals as goal
 

@@ -3,7 +3,7 @@ use Rattle.desk_io.specs.Files.{file_of}
 use Rattle.gcl_reader.specs.declared.limits.TheConstants.{MOST_BYTES}
 use Rattle.command_line.specs.Carrying.{posed_in}
 use Rattle.command_line.specs.CarryStages.{IsCarriedFound}
-use Rattle.command_line.proofs.Carrying.{fit_found}
+use Rattle.command_line.proofs.CarryingFacts.{fit_found}
 use Rattle.command_line.proofs.Checks.{read_and_one_given}
 use Rattle.command_line.proofs.Dues.{alone, passed_on}
 use Rattle.command_line.proofs.carry.carry_figure.Goals as goal

@@ -4,7 +4,7 @@ use Rattle.gcl_reader.specs.declared.limits.TheConstants.{MOST_BYTES}
 use Rattle.command_line.specs.Carrying.{posed_in}
 use Rattle.command_line.specs.CarryStages.{IsCarriedFound}
 use Rattle.command_line.specs.Table.{OfFile}
-use Rattle.command_line.proofs.Carrying.{read_then}
+use Rattle.command_line.proofs.CarryingFacts.{read_then}
 use Rattle.command_line.proofs.Dues.{alone, passed_on}
 use Rattle.command_line.proofs.carry.carry_file.Goals as goal
 

@@ -1,7 +1,7 @@
 use Rattle.std.proofs.Common.{Some, inl, inr}
 use Rattle.command_line.specs.Table.{CarryOf, IsAnswer}
 use Rattle.command_line.specs.Contract.{lent, views}
-use Rattle.command_line.proofs.Carrying.{no_usage}
+use Rattle.command_line.proofs.CarryingFacts.{no_usage}
 use Rattle.command_line.proofs.Decided.{decided}
 use Rattle.command_line.proofs.Runs.{run_of}
 use Rattle.command_line.proofs.carry.carry_run.Goals as goal

@@ -86,10 +86,10 @@ carried_for : (p : Posed) (drawn : Result (Figure ℤ) Refusal) (x : Found) (log
 carried_for p (Ok f) x log figure a h k = carried_by p f x log a h k
 carried_for p (Err refusal) x log figure a h k = k
 
-carried_of : (read : Result Posed Refusal) (x : Found) (log file figure : List ℕ) (a : Answer) → Finds x log → IsCarriedFound read file figure x a
+carried_with : (read : Result Posed Refusal) (x : Found) (log file figure : List ℕ) (a : Answer) → Finds x log → IsCarriedFound read file figure x a
     → IsCarriedWith read log file figure a
-carried_of (Ok p) x log file figure a h k = carried_for p (figure_of p.program.points figure) x log figure a h k
-carried_of (Err refusal) x log file figure a h k = k
+carried_with (Ok p) x log file figure a h k = carried_for p (figure_of p.program.points figure) x log figure a h k
+carried_with (Err refusal) x log file figure a h k = k
 
 -- ---- which answer it is
 pub told_others : (p : Posed) (f : Figure ℤ) (x : Found) → (IsTrue false ↔ Has p.stated x) → IsToldFor p f x other_problems
@@ -146,7 +146,7 @@ carry_answered held files log file figure f a e w over =
           (λ text b. OfFile MOST_BYTES (file_of files figure) (λ drawn c. IsCarriedFound (posed_in text) text drawn f c) b)
           (λ text b. OfFile MOST_BYTES (file_of files figure) (λ drawn c. IsCarried bytes text drawn c) b) a
           (λ text k. widened MOST_BYTES (file_of files figure) (λ drawn c. IsCarriedFound (posed_in text) text drawn f c)
-          (λ drawn c. IsCarried bytes text drawn c) a (λ drawn j. carried_of (posed_in text) f bytes text drawn a (w.finds bytes h) j) k) over,
+          (λ drawn c. IsCarried bytes text drawn c) a (λ drawn j. carried_with (posed_in text) f bytes text drawn a (w.finds bytes h) j) k) over,
     ))
 
 pub log_then : (held held' : Option Files) (rose rose' : Type 0) (log file figure : List ℕ) (f : Found)
