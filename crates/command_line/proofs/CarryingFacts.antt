@@ -1,5 +1,5 @@
 -- The answer that is due where a figure is carried.
-use Rattle.std.proofs.Common.{◌≡◌, ◌≤◌, ◌<◌, ◌+◌, ℕ, List, [], ◌∷◌, length, map, Option, Some, Result, Ok, Err, IsTrue, true, false, inl, inr, refl, sym, ◌∙◌, ap, subst, arith}
+use Rattle.std.proofs.Common.{◌≡◌, ◌≤◌, ◌<◌, ◌+◌, ℕ, List, [], ◌∷◌, length, map, Option, Some, Result, Ok, Err, Bool, IsTrue, true, false, inl, inr, refl, sym, ◌∙◌, ap, subst, arith}
 use Rattle.std.specs.Prelude.{ℤ, ◌↔◌, ◌⊎◌}
 use Rattle.std.proofs.lemmas.List.{length-map}
 use Rattle.poly_model.specs.declared.limits.TheConstants.{MOST_LOG_BYTES}
@@ -25,8 +25,8 @@ use Rattle.command_line.specs.Answer.{Answer, refused, text_answer}
 use Rattle.command_line.specs.Carrying.{Posed, IsCarried, IsCarriedBy, IsCarriedFor, IsCarriedWith, all_carried, carried_text, posed_in}
 use Rattle.command_line.specs.CarryStages.{AreFew, IsCarriedFound, IsDrawnFor, IsToldFor, told_answer}
 use Rattle.command_line.specs.Checking.{other_problems}
-use Rattle.command_line.specs.Found.{Finds, Has}
-use Rattle.command_line.specs.Run.{Answers}
+use Rattle.command_line.specs.Found.{Compares, Finds, Has}
+use Rattle.command_line.specs.Run.{Answers, GivesOne}
 use Rattle.command_line.specs.Statuses.{IsComparingStatus, IsReadingFault}
 use Rattle.command_line.specs.Table.{CarryOf, OfFile, OfFileAlone, IsAnswer}
 use Rattle.command_line.specs.VerdictLines.{problems_in, verdicts_in}
@@ -98,6 +98,39 @@ told_others p f x h = inr ((λ has. let e = h.1 has in cc), refl)
 pub told_found : (p : Posed) (f : Figure ℤ) (x : Found) → (IsTrue true ↔ Has p.stated x) → IsToldFor p f x (told_answer p.program.acts f x)
 told_found p f x h = inl (h.0 refl, refl)
 
+-- the answer to what is found, by whether it has the problems
+pub told_not : (p : Posed) (f : Figure ℤ) (x : Found) (has : Bool) → has ≡ false → (IsTrue has ↔ Has p.stated x) → IsToldFor p f x other_problems
+told_not p f x has e h = told_others p f x (subst (λ b. IsTrue b ↔ Has p.stated x) e h)
+
+pub told_so : (p : Posed) (f : Figure ℤ) (x y : Found) (has : Bool) → has ≡ true → (IsTrue has ↔ Has p.stated x) → x ≡ y
+    → IsToldFor p f x (told_answer p.program.acts f y)
+told_so p f x y has e h is =
+    subst (λ z. IsToldFor p f x (told_answer p.program.acts f z)) is (told_found p f x (subst (λ b. IsTrue b ↔ Has p.stated x) e h))
+
+-- a figure that was read decides what is told, and so does one that is refused
+pub drawn_read : (p : Posed) (drawn : Result (Figure ℤ) Refusal) (f : Figure ℤ) (figure : List ℕ) (x : Found)
+    (out_old out_new notes_old notes_new : Option (List ℕ)) (status : Status) → drawn ≡ Ok f
+    → GivesOne (IsToldFor p f x) out_old out_new notes_old notes_new status
+    → GivesOne (IsDrawnFor p drawn figure x) out_old out_new notes_old notes_new status
+drawn_read p drawn f figure x out_old out_new notes_old notes_new status is h =
+    subst (λ r. GivesOne (IsDrawnFor p r figure x) out_old out_new notes_old notes_new status) (sym is) h
+
+pub drawn_refused : (p : Posed) (drawn : Result (Figure ℤ) Refusal) (figure : List ℕ) (x : Found) (refusal : Refusal) → drawn ≡ Err refusal
+    → IsDrawnFor p drawn figure x (refused figure refusal)
+drawn_refused p drawn figure x refusal is = subst (λ r. IsDrawnFor p r figure x (refused figure refusal)) (sym is) refl
+
+-- and so does a file
+pub posed_read : (read : Result Posed Refusal) (p : Posed) (file figure : List ℕ) (x : Found)
+    (out_old out_new notes_old notes_new : Option (List ℕ)) (status : Status) → read ≡ Ok p
+    → GivesOne (IsDrawnFor p (figure_of p.program.points figure) figure x) out_old out_new notes_old notes_new status
+    → GivesOne (IsCarriedFound read file figure x) out_old out_new notes_old notes_new status
+posed_read read p file figure x out_old out_new notes_old notes_new status is h =
+    subst (λ r. GivesOne (IsCarriedFound r file figure x) out_old out_new notes_old notes_new status) (sym is) h
+
+pub posed_refused : (read : Result Posed Refusal) (file figure : List ℕ) (x : Found) (refusal : Refusal) → read ≡ Err refusal
+    → IsCarriedFound read file figure x (refused file refusal)
+posed_refused read file figure x refusal is = subst (λ r. IsCarriedFound r file figure x (refused file refusal)) (sym is) refl
+
 -- an accepted log with the problems of a program has few
 pub few_problems : (x : Found) (program : Program) (stated : List Equations) → IsSound program → problems_of program.acts ≡ Ok stated → Has stated x → AreFew x
 few_problems (found.Accepted c) program stated sound is has =
@@ -108,6 +141,9 @@ few_problems (found.Accepted c) program stated sound is has =
     omega (arith, a, b, n, m, sound.proves)
 few_problems (found.Malformed n) program stated sound is has = tt
 few_problems (found.Rejected n w) program stated sound is has = tt
+
+pub few_compared : (x : Found) (program : Program) (has : Bool) → IsSound program → Compares x (Ok has) (problems_of program.acts) → IsTrue has → AreFew x
+few_compared x program has sound h same = few_problems x program h.0 sound h.1 (h.2.0 same)
 
 -- ---- files that are read one after another
 -- a file was read, and what is answered behind it sees its bytes
