@@ -3,7 +3,7 @@ use Rattle.std.proofs.Common.{◌≡◌, ◌≤◌, ◌⊎◌, ℕ, List, [], �
 use Rattle.std.specs.List.{AllByRecursion}
 use Rattle.std.proofs.lemmas.Bool.Decides.{nat_tests}
 use Rattle.std.proofs.lemmas.List.Elements.{recursion_from_All}
-use Rattle.poly_model.specs.Domain.{Operations}
+use Rattle.poly_model.specs.Domain.{Operations, integers}
 use Rattle.poly_model.specs.declared.limits.TheConstants.{MOST_LOG_BYTES}
 use Rattle.desk_io.specs.Files.{Files, Holds, file_of}
 use Rattle.gcl_reader.specs.declared.limits.TheConstants.{MOST_BYTES}
@@ -17,20 +17,23 @@ use Rattle.assurance.specs.Assured.{TreesCover, VerdictsHold}
 use Rattle.proof_log.specs.Grammar.{AreProofs}
 use Rattle.proof_log.specs.declared.limits.TheConstants.{VERSION}
 use Rattle.proof_log.specs.declared.log.Proof.{Proof}
+use Rattle.placement.specs.Carrying.{CarriedIsMet}
 use Rattle.log_checker.specs.Answers.{Finding, Accepted, Malformed, Rejected, IsFound, IsAcceptedText}
 use Rattle.prove_run.specs.Whole.{HasCounts}
 use Rattle.command_line.specs.Answer.{Answer, read_fault, too_large, answer_from}
 use Rattle.command_line.specs.Assured.{IsAssuredLog}
+use Rattle.command_line.specs.Carrying.{CarriesOf}
 use Rattle.command_line.specs.Checking.{answer_to, IsChecked, HasProblems, IsCompared, IsComparedWith, stated_in}
 use Rattle.command_line.specs.Contract.{IsFault}
 use Rattle.command_line.specs.Figures.{IsAssuredOf}
 use Rattle.command_line.specs.Headline.{Headline, IsDecided, IsWritten, ProvesOf, assured_so, ProvedIsAssured}
 use Rattle.command_line.specs.Proving.{proofs_of, log_text, proved}
-use Rattle.command_line.specs.Table.{Form, TextOf, ProveOf, CheckOf, TrialOf, OfFile, IsAnswer}
+use Rattle.command_line.specs.Table.{Form, TextOf, ProveOf, CheckOf, CarryOf, TrialOf, OfFile, IsAnswer}
 use Rattle.command_line.specs.VerdictLines.{problems_in}
 use Rattle.command_line.specs.declared.status.Status.{Status}
 use Rattle.command_line.specs.declared.status.Status.TheVariants.{Done}
 use Rattle.command_line.proofs.Assured.{spelled, log_assured}
+use Rattle.command_line.proofs.CarriedFigures.{carries}
 use Rattle.command_line.proofs.Figures.{AllMean, figures_hold}
 use Rattle.command_line.proofs.FileLogs.{IsSure, log-sure, log-stated}
 
@@ -168,7 +171,25 @@ proved_assured files file log a h has there =
     )
 
 -- ---- the headline
-module _ {M : Type 0} (o : Operations M) (cover : TreesCover o) (hold : VerdictsHold o) (mean : AllMean o) where
+-- What is known over the whole numbers.
+pub record OfWholeNumbers : Type 0 where
+  pub cover : TreesCover integers
+  pub hold : VerdictsHold integers
+  pub mean : AllMean integers
+  pub met : CarriedIsMet
+
+carry_done : OfWholeNumbers → (files : Files) (log file figure bytes source drawn : List ℕ) (a : Answer) → IsAnswer (Some (CarryOf log file figure)) files a
+    → a.status ≡ Done → file_of files log ≡ Some bytes → file_of files file ≡ Some source → file_of files figure ≡ Some drawn → CarriesOf bytes source drawn
+carry_done whole files log file figure bytes source drawn a h done held kept there =
+    let r = was_read MOST_LOG_BYTES (file_of files log) _ a h (inl done) in
+    let q = was_read MOST_BYTES (file_of files file) _ a r.next (inl done) in
+    let t = was_read MOST_BYTES (file_of files figure) _ a q.next (inl done) in
+    let all = carries whole.cover whole.hold whole.mean whole.met r.bytes q.bytes t.bytes a t.next done in
+    subst (λ b. CarriesOf b source drawn) (same_bytes _ r.bytes bytes r.held held)
+    (subst (λ s. CarriesOf r.bytes s drawn) (same_bytes _ q.bytes source q.held kept)
+    (subst (λ d. CarriesOf r.bytes q.bytes d) (same_bytes _ t.bytes drawn t.held there) all))
+
+module _ {M : Type 0} (o : Operations M) (cover : TreesCover o) (hold : VerdictsHold o) (mean : AllMean o) (whole : OfWholeNumbers) where
   of_log : (log : List ℕ) (a : Answer) → IsChecked log a → a.status ≡ Done → IsAssuredLog o log
   of_log log a c done = let w = was_accepted log c.finding a c.found c.answer done in log_assured o cover hold log w.proofs w.text
 
@@ -220,6 +241,11 @@ module _ {M : Type 0} (o : Operations M) (cover : TreesCover o) (hold : Verdicts
       let f = told held file source there in
       let a = answered (Some (ProveOf file)) f.0 status (decided f.0 f.1) written in
       file_proved f.0 file source a.0 a.1 (subst IsWritten (sym a.2) written) (file_told held f.0 file source f.1 there)
+  headline (Some (CarryOf log file figure)) held status decided = λ done bytes source drawn is kept there.
+      let f = told held log bytes is in
+      let a = answered (Some (CarryOf log file figure)) f.0 status (decided f.0 f.1) (inl done) in
+      carry_done whole f.0 log file figure bytes source drawn a.0 a.1 (a.2 ∙ done) (file_told held f.0 log bytes f.1 is)
+      (file_told held f.0 file source f.1 kept) (file_told held f.0 figure drawn f.1 there)
   headline (Some (CheckOf log None)) held status decided = λ done bytes there.
       let f = told held log bytes there in
       let a = answered (Some (CheckOf log None)) f.0 status (decided f.0 f.1) (inl done) in

@@ -112,6 +112,11 @@ pub record IsTrialRun {K S N : Type 0} (old new : Lent K S N) (status : Status) 
   pub idle : new.desk ≡ old.desk
   pub unsaid : new.notes ≡ old.notes
 
+-- What a call promises besides that carries a figure: it proves nothing, and says nothing where its text is done.
+pub record IsCarryRun {K S N : Type 0} (old new : Lent K S N) (status : Status) : Type 0 where
+  pub of_carry : (status ≡ Usage → ⊥) × (status ≡ Unproved → ⊥)
+  pub unsaid : status ≡ Done → new.notes ≡ old.notes
+
 -- What a call promises besides that checks a log: it proves nothing, and refuses no file where none is named.
 abbrev pub IsCheckRun : (file : Option (List ℕ)) → Status → Type 0
 IsCheckRun file status = (status ≡ Usage → ⊥) × (status ≡ Unproved → ⊥) × (file ≡ None → status ≡ Refused → ⊥)

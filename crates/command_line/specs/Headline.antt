@@ -5,10 +5,11 @@ use Rattle.desk_io.specs.Files.{Files, Holds, file_of}
 use Rattle.proof_log.specs.declared.log.Proof.{Proof}
 use Rattle.command_line.specs.Answer.{Answer, text_answer}
 use Rattle.command_line.specs.Assured.{IsAssuredLog}
+use Rattle.command_line.specs.Carrying.{CarriesOf}
 use Rattle.command_line.specs.Contract.{IsFault}
 use Rattle.command_line.specs.Figures.{IsAssuredOf}
 use Rattle.command_line.specs.Proving.{proofs_of, log_text}
-use Rattle.command_line.specs.Table.{Form, TextOf, ProveOf, CheckOf, TrialOf, IsAnswer}
+use Rattle.command_line.specs.Table.{Form, TextOf, ProveOf, CheckOf, CarryOf, TrialOf, IsAnswer}
 use Rattle.command_line.specs.declared.status.Status.{Status}
 use Rattle.command_line.specs.declared.status.Status.TheVariants.{Done, Unproved}
 
@@ -22,7 +23,7 @@ IsWritten status = (status ≡ Done) ⊎ (status ≡ Unproved)
 
 -- Where a log was written of a file, it is assured, and its verdicts hold of the file's figures. Where the check of a log is
 -- done, the log that the desk holds under its name is assured; and where it is done against a file, the verdicts hold of
--- that file's figures.
+-- that file's figures. Where a figure was carried, it meets what the text says holds of it.
 abbrev pub Headline : {M : Type 0} → Operations M → Option Form → Option Files → Status → Type 0
 Headline o None held status = Unit {0}
 Headline o (Some (TextOf command file)) held status = Unit {0}
@@ -32,6 +33,9 @@ Headline o (Some (CheckOf log None)) held status =
     status ≡ Done → (bytes : List ℕ) → Holds held log bytes → IsAssuredLog o bytes
 Headline o (Some (CheckOf log (Some file))) held status =
     status ≡ Done → (bytes source : List ℕ) → Holds held log bytes → Holds held file source → IsAssuredOf o bytes source
+Headline o (Some (CarryOf log file figure)) held status =
+    status ≡ Done → (bytes source drawn : List ℕ) → Holds held log bytes → Holds held file source → Holds held figure drawn
+    → CarriesOf bytes source drawn
 Headline o (Some (TrialOf number)) held status = Unit {0}
 
 -- Where the desk tells its files, the status is that of the answer over them, or a fault.

@@ -17,4 +17,6 @@ pub mod ExitCodes
 pub mod Drawn
 pub mod Assured
 pub mod Figures
+pub mod Carrying
+pub mod CarryStages
 pub mod Headline

@@ -11,6 +11,7 @@ use Rattle.command_line.specs.Pipeline.{svg_of, latex_of, system_of, show_of}
 use Rattle.command_line.specs.Proving.{proofs_of, proved}
 use Rattle.command_line.specs.Samples.{sample_of}
 use Rattle.command_line.specs.Checking.{IsChecked, IsCheckedAgainst}
+use Rattle.command_line.specs.Carrying.{IsCarried}
 use Rattle.command_line.specs.Trials.{trial_of}
 use Rattle.command_line.specs.declared.numbers.TheConstants.{TRIALS}
 use Rattle.trial_file.specs.Trial.{trial_text}
@@ -21,6 +22,7 @@ pub data Form : Type 0 where
   TextOf : Command → (file : List ℕ) → Form  -- a text that a command makes of a file
   ProveOf : (file : List ℕ) → Form  -- the log of a file's proofs
   CheckOf : (log : List ℕ) → (file : Option (List ℕ)) → Form  -- whether a log is accepted, and has a file's problems
+  CarryOf : (log file figure : List ℕ) → Form  -- what a log of a file's problems tells of a figure
   TrialOf : (number : ℕ) → Form  -- what comes of the file of a number
 
 -- A file that a form names, and the most bytes that it may have.
@@ -37,6 +39,7 @@ sources_of (TextOf command file) = source file MOST_BYTES ∷ []
 sources_of (ProveOf file) = source file MOST_BYTES ∷ []
 sources_of (CheckOf log None) = source log MOST_LOG_BYTES ∷ []
 sources_of (CheckOf log (Some file)) = source log MOST_LOG_BYTES ∷ source file MOST_BYTES ∷ []
+sources_of (CarryOf log file figure) = source log MOST_LOG_BYTES ∷ source file MOST_BYTES ∷ source figure MOST_BYTES ∷ []
 sources_of (TrialOf number) = []
 
 -- ---- answers over the bytes of the files
@@ -46,6 +49,7 @@ IsAnswerOver (TextOf command file) files a = a ≡ answer_from text_answer (get_
 IsAnswerOver (ProveOf file) files a = a ≡ answer_from proved (get_or files 0 []) (proofs_of (get_or files 0 []))
 IsAnswerOver (CheckOf log None) files a = IsChecked (get_or files 0 []) a
 IsAnswerOver (CheckOf log (Some file)) files a = IsCheckedAgainst (get_or files 0 []) (get_or files 1 []) a
+IsAnswerOver (CarryOf log file figure) files a = IsCarried (get_or files 0 []) (get_or files 1 []) (get_or files 2 []) a
 IsAnswerOver (TrialOf number) files a = a ≡ answer_from text_answer (trial_text number) (trial_of number)
 
 -- The answer over a file of at most so many bytes: what comes next sees the bytes.
@@ -111,6 +115,14 @@ log_and_file (log ∷ []) = Some (CheckOf log None)
 log_and_file (log ∷ file ∷ []) = Some (CheckOf log (Some file))
 log_and_file (log ∷ file ∷ other ∷ words) = None
 
+-- The words behind `carry`: the names of a log, of a file, and of a figure.
+abbrev pub carry_words : List (List ℕ) → Option Form
+carry_words [] = None
+carry_words (log ∷ []) = None
+carry_words (log ∷ file ∷ []) = None
+carry_words (log ∷ file ∷ figure ∷ []) = Some (CarryOf log file figure)
+carry_words (log ∷ file ∷ figure ∷ other ∷ words) = None
+
 -- The number of a trial that a word tells: the word is its decimal text.
 abbrev pub trial_number : List ℕ → Option ℕ
 trial_number word =
@@ -141,6 +153,7 @@ rows =
     ∷ record { word = codes "prove"; form = prove_words }
     ∷ record { word = codes "check"; form = log_and_file }
     ∷ record { word = codes "trial"; form = trial_words }
+    ∷ record { word = codes "carry"; form = carry_words }
     ∷ []
 
 -- The form that a first word begins, by the first row that has it.

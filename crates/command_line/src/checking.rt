@@ -75,8 +75,8 @@ pub fn fetch_log<D: Domain, K: Desk, N: Sink>(
     }
 }
 
-// Says at which line the log is at fault.
-fn say_rejected<N: Sink>(alloc: Global, line: u32, word: &[u8], notes: &mut N) -> Status
+/// Says at which line the log is at fault.
+pub fn say_rejected<N: Sink>(alloc: Global, line: u32, word: &[u8], notes: &mut N) -> Status
     ensures ends { (out : Option (List ℕ))
         → Ends (only_notes Status.Rejected (rejected_line line word.now))
         out out (N.written notes.old) (N.written notes.new) result }

@@ -22,8 +22,8 @@ use gcl_reader::{GclFault, MOST_BYTES, read};
 use log_checker::check_against;
 use std::alloc::Global;
 
-// Whether the log has the problems of a program, if it is accepted.
-fn has_problems(alloc: Global, found: &Found, program: &Program) -> Result<bool, GclFault>
+/// Whether the log has the problems of a program, if it is accepted.
+pub fn has_problems(alloc: Global, found: &Found, program: &Program) -> Result<bool, GclFault>
     requires { IsSound program.now }
     ensures { Compares found.now result (problems_of program.now.acts) }
 {

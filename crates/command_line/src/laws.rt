@@ -8,7 +8,8 @@ ghost use Rattle.command_line.specs.declared.status.Status.{Status};
 
 use algebraize::equations_mean_their_figure;
 use assurance::{trees_cover, verdicts_hold};
-use poly_model::Domain;
+use placement::carried_is_met;
+use poly_model::{Domain, Integers};
 
 /// No words have two answers over the same files.
 pub fn answers_are_unique()
@@ -16,7 +17,7 @@ pub fn answers_are_unique()
         → IsAnswer form files a → IsAnswer form files b → a ≡ b }
 {}
 
-/// What a check of a log that is done has shown, in each domain.
+/// What a check of a log that is done has shown, in each domain; and what a carried figure meets, over the whole numbers.
 pub fn a_yes_is_assured<D: Domain>(domain: &D)
     ensures { (form : Option Form) (held : Option Files) (status : Status)
         → IsDecided form held status → Headline D.operations form held status }
@@ -24,6 +25,10 @@ pub fn a_yes_is_assured<D: Domain>(domain: &D)
     trees_cover(domain);
     verdicts_hold(domain);
     equations_mean_their_figure(domain);
+    trees_cover(&Integers);
+    verdicts_hold(&Integers);
+    equations_mean_their_figure(&Integers);
+    carried_is_met();
 }
 
 /// What `prove` writes of a file, `check` assures.
