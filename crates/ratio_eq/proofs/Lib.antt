@@ -4,3 +4,4 @@ pub mod Meaning
 pub mod Limits
 pub mod Taking
 pub mod Forming
+pub mod Concluding
