@@ -1,14 +1,13 @@
 -- What `conclude` answers, from what its calls answer.
-use Rattle.std.proofs.Common.{◌≡◌, ℕ, List, [], ◌∷◌, length, drop, refl, sym, ◌∙◌, ap, arith, true, subst}
-use Rattle.std.specs.Prelude.{Result, Ok, Err}
+use Rattle.std.proofs.Common.{◌≡◌, ℕ, List, [], ◌∷◌, length, drop, refl, sym, ◌∙◌, ap, arith, true}
+use Rattle.std.specs.Prelude.{Ok}
 use Rattle.poly_model.specs.Polynomial.{Polynomial}
 use Rattle.poly_model.specs.Bounded.{and_then}
-use Rattle.poly_model.specs.declared.limits.Limit.{Limit}
 use Rattle.ratio_terms.specs.declared.part.Part.{Part}
 use Rattle.ratio_terms.specs.Terms.{Term, names_in, are_terms, terms_of, first_of, behind_first}
 use Rattle.ratio_eq.specs.Vectors.{Vector}
 use Rattle.ratio_eq.specs.Bounded.{Formed, bounded_fraction, bounded_equality, bounded_conclusion_of, concluded}
-use Rattle.ratio_eq.specs.Outcomes.{Fails, Gives, same}
+use Rattle.ratio_eq.specs.Outcomes.{Fails}
 use Rattle.ratio_eq.specs.declared.fault.RatioFault.{RatioFault}
 use Rattle.ratio_eq.specs.declared.fault.RatioFault.TheVariants as fault
 use Rattle.ratio_eq.specs.Taking.{bounded_first, TakesFirst}

@@ -1,5 +1,5 @@
 -- A relation that the operations keep is kept by fractions and squares.
-use Rattle.std.proofs.Common.{◌≡◌, ℕ, zero, suc, List, [], ◌∷◌, ◌++◌, subst}
+use Rattle.std.proofs.Common.{ℕ, zero, suc, List, [], ◌∷◌, ◌++◌, subst}
 use Rattle.poly_model.specs.Domain.{Operations, natural_in}
 use Rattle.ratio_terms.specs.Terms.{Term, Whole, Area, Pythagoras, Ratio, Sum, Product}
 use Rattle.ratio_eq.specs.Vectors.{Vector, minus, dot, cross}

@@ -5,3 +5,4 @@ pub mod Limits
 pub mod Taking
 pub mod Forming
 pub mod Concluding
+pub mod Worked

@@ -1,18 +1,12 @@
 -- Where no limit is met, the conclusion is the one without limits.
-use Rattle.std.proofs.Common.{◌≡◌, ℕ, ◌≤◌, zero, suc, List, [], ◌∷◌, ◌++◌, map, replicate, refl, sym, ◌∙◌, ap, subst, arith, true, false, cond}
-use Rattle.std.specs.Prelude.{ℤ, pos, ◌+ℤ◌, Result, Ok, Err, IsTrue}
-use Rattle.std.specs.declared.cmp.Ordering.{Ordering}
-use Rattle.std.specs.declared.cmp.Ordering.TheVariants.{Less, Equal, Greater}
-use Rattle.std.specs.Cmp.Derive.{both_true}
-use Rattle.std.proofs.lemmas.Bool.{le-leb, lt-ltb}
-use Rattle.std.proofs.lemmas.Int.{ints}
+use Rattle.std.proofs.Common.{◌≡◌, ℕ, ◌≤◌, List, [], ◌∷◌, ◌++◌, map, refl, sym, ap, subst, arith, true, false, cond}
+use Rattle.std.specs.Prelude.{Result, Ok, Err, IsTrue}
 use Rattle.poly_model.specs.Domain.{natural_in}
-use Rattle.poly_model.specs.Polynomial.{Polynomial, polynomial_operations, poly_constant, poly_sum, poly_difference, poly_product, add_entry, with_entry, monomial_cmp}
+use Rattle.poly_model.specs.Polynomial.{Polynomial, poly_sum, poly_difference, poly_product}
 use Rattle.poly_model.specs.Content.{primitive_part}
 use Rattle.poly_model.specs.Reduction.{has_polynomial}
 use Rattle.poly_model.specs.Standard.{is_standard}
 use Rattle.poly_model.specs.Bounded.{bounded_sum, bounded_difference, bounded_product, and_then}
-use Rattle.poly_model.specs.Values.{monomial_cmp-self}
 use Rattle.poly_model.specs.declared.limits.TheConstants.{MOST_VARIABLES, MOST_SIZE}
 use Rattle.poly_model.specs.declared.limits.Limit.{Limit}
 use Rattle.poly_model.proofs.Standing.{standard-descending}
@@ -23,7 +17,7 @@ use Rattle.ratio_terms.specs.Terms.{Term, Whole, Area, Pythagoras, Ratio, Sum, P
 use Rattle.ratio_eq.proofs.Numbers.{natural-standard}
 use Rattle.ratio_eq.specs.Vectors.{Vector, minus, dot, cross, sq}
 use Rattle.ratio_eq.specs.Fractions.{polynomials, Fraction, fraction_of, squares_of, cross_of, with_new, once_behind, parts_once, product_onto, conclusion_of}
-use Rattle.ratio_eq.specs.Bounded.{bounded_minus, bounded_dot, bounded_crossing, bounded_square, Formed, formed_over_one, bounded_fraction, bounded_cross_of, bounded_onto, bounded_equality, bounded_conclusion}
+use Rattle.ratio_eq.specs.Bounded.{bounded_minus, bounded_dot, bounded_crossing, bounded_square, Formed, bounded_fraction, bounded_cross_of, bounded_onto, bounded_conclusion}
 use Rattle.ratio_eq.specs.Laws.{IsStandardPlace, IsStandardTerm, BoundedIsUsual}
 
 -- within the limits

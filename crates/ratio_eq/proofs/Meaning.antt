@@ -1,7 +1,6 @@
 -- What the conclusion of an equality means.
 use Rattle.std.proofs.Common.{◌≡◌, List, [], ◌∷◌, ◌++◌, map, refl, sym, ◌∙◌, ap, true, false, cond, inl, inr, ◌⊎◌}
 use Rattle.std.specs.Prelude.{◌↔◌, pos}
-use Rattle.std.specs.List.{list_any}
 use Rattle.std.proofs.lemmas.Bool.{or_cases}
 use Rattle.poly_model.specs.Domain.{Operations, IsDomain}
 use Rattle.poly_model.specs.Ring as ring

@@ -31,7 +31,6 @@ constant-standard : (k : ℕ) → k ≤ MOST_SIZE → is_standard (poly_constant
 constant-standard zero le = refl
 constant-standard (suc k) le = both_true (both_true (both_true (lt-ltb 0 (suc k) (omega arith)) (le-leb (suc k) MOST_SIZE le)) refl) refl
 
-
 pub natural-standard : (k : ℕ) → k ≤ MOST_SIZE → is_standard (natural_in polynomials k) ≡ true
 natural-standard k le = ap is_standard (natural-constant MOST_VARIABLES k) ∙ constant-standard k le
 

@@ -1,5 +1,5 @@
 -- The first term of parts, and what stands behind it.
-use Rattle.std.proofs.Common.{◌≡◌, ◌≤◌, ◌<◌, ℕ, ◌+◌, ◌-◌, zero, suc, List, [], ◌∷◌, length, drop, refl, sym, ◌∙◌, ap, subst, arith, true, false, IsTrue}
+use Rattle.std.proofs.Common.{◌≡◌, ◌≤◌, ℕ, ◌+◌, zero, suc, List, [], ◌∷◌, length, drop, refl, ◌∙◌, ap, subst, arith, true}
 use Rattle.std.specs.Prelude.{Result, Ok, Err}
 use Rattle.std.proofs.lemmas.List.{length-drop}
 use Rattle.poly_model.specs.Polynomial.{Polynomial}
@@ -7,7 +7,7 @@ use Rattle.poly_model.specs.Bounded.{and_then}
 use Rattle.poly_model.specs.declared.limits.Limit.{Limit}
 use Rattle.ratio_terms.specs.declared.part.Part.{Part}
 use Rattle.ratio_terms.specs.declared.part.Part.TheVariants as part
-use Rattle.ratio_terms.specs.Terms.{Term, Sum, Product, operands_of, with_operands, names_of, names_in, are_terms, joined, terms_of, term_with, first_of, behind_first}
+use Rattle.ratio_terms.specs.Terms.{Term, Sum, Product, operands_of, names_of, names_in, are_terms, joined, terms_of, first_of, behind_first}
 use Rattle.ratio_eq.specs.Vectors.{Vector}
 use Rattle.ratio_eq.specs.Bounded.{Formed, bounded_fraction, bounded_fraction_sum, bounded_fraction_product}
 use Rattle.ratio_eq.specs.Taking.{bounded_leaf, bounded_joined, bounded_first, AreWhole, TakesFirst}
@@ -214,7 +214,7 @@ joined-takes p ps spots n m j k e h t u =
       parts_within = let x = t.parts_within in let y = u.parts_within in omega (arith, a, x, y);
       spots_within = let x = t.spots_within in let y = u.spots_within in omega (arith, b, x, y);
       behind =
-        two-behind p ps spots e (inner-count p ps spots e h) ∙ ap behind_first t.behind ∙ u.behind ∙ (λ i. terms_of (parts i) (places i));
+          two-behind p ps spots e (inner-count p ps spots e h) ∙ ap behind_first t.behind ∙ u.behind ∙ (λ i. terms_of (parts i) (places i));
       terms = λ i w. subst (λ l. are_terms i l ≡ true) parts (u.terms i (t.terms (suc i) (two-terms p ps i e w)));
       names = λ w.
           let inside : names_in ps ≤ length spots = omega (arith, w) in

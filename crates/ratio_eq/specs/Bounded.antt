@@ -1,7 +1,7 @@
 -- The conclusion of an equality within the limits, or the limit that is met first: the first term is formed whole, then
 -- the second; in each the numerator before the denominator; then the two products, their difference, and the product
 -- with each square in turn.
-use Rattle.std.specs.Prelude.{ℕ, List, [], ◌∷◌, ◌++◌, Result, Ok, Err}
+use Rattle.std.specs.Prelude.{List, [], ◌∷◌, ◌++◌, Result, Ok}
 use Rattle.poly_model.specs.Domain.{natural_in}
 use Rattle.poly_model.specs.Polynomial.{Polynomial}
 use Rattle.poly_model.specs.Content.{primitive_part}

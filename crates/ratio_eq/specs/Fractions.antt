@@ -1,5 +1,5 @@
 -- The fraction of a term, what an equality of two terms says of places, and its conclusion.
-use Rattle.std.specs.Prelude.{◌≡◌, ℕ, List, [], ◌∷◌, ◌++◌, map, cond, ◌⊎◌}
+use Rattle.std.specs.Prelude.{◌≡◌, List, [], ◌∷◌, ◌++◌, map, cond, ◌⊎◌}
 use Rattle.poly_model.specs.Domain.{Operations, natural_in}
 use Rattle.poly_model.specs.Polynomial.{Polynomial, polynomial_operations, poly_product}
 use Rattle.poly_model.specs.Content.{primitive_part}

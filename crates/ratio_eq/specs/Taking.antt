@@ -1,5 +1,5 @@
 -- What the code of a term forms, and what it leaves of parts and places.
-use Rattle.std.specs.Prelude.{◌≡◌, ◌≤◌, ℕ, suc, List, [], ◌∷◌, length, drop, IsTrue, Result}
+use Rattle.std.specs.Prelude.{◌≡◌, ◌≤◌, ℕ, suc, List, [], length, drop, IsTrue, Result}
 use Rattle.poly_model.specs.Polynomial.{Polynomial}
 use Rattle.poly_model.specs.declared.limits.Limit.{Limit}
 use Rattle.ratio_terms.specs.declared.part.Part.{Part}

@@ -82,10 +82,7 @@ fn ratio(
 }
 
 /// A list, and another behind it.
-pub fn appended(
-    front: Vec<OwnedPoly>,
-    behind: Vec<OwnedPoly>,
-) -> Result<Vec<OwnedPoly>, RatioFault>
+pub fn appended(front: Vec<OwnedPoly>, behind: Vec<OwnedPoly>) -> Result<Vec<OwnedPoly>, RatioFault>
     ensures items { IfOk result (λ all. all.items ≡ front.items ++ behind.items) }
     ensures fault { IfErr result (λ fault. fault ≡ OutOfMemory) }
 {
@@ -139,12 +136,7 @@ pub fn leaf(alloc: Global, part: Part, spots: &[Vector]) -> Result<Fraction, Rat
 }
 
 /// The fraction of a part with two operands, of which these are the fractions.
-pub fn joined(
-    alloc: Global,
-    part: Part,
-    x: Fraction,
-    y: Fraction,
-) -> Result<Fraction, RatioFault>
+pub fn joined(alloc: Global, part: Part, x: Fraction, y: Fraction) -> Result<Fraction, RatioFault>
     requires { operands_of part ≡ 2 }
     ensures { Gives formed_of result (bounded_joined part (formed_of x) (formed_of y)) }
 {

@@ -1,5 +1,5 @@
 -- Parts in preorder are one list of terms.
-use Rattle.std.proofs.Common.{◌≡◌, ℕ, suc, List, ◌∷◌, ◌++◌, refl, ◌∙◌, ap, append_assoc}
+use Rattle.std.proofs.Common.{◌≡◌, suc, List, ◌∷◌, ◌++◌, refl, ◌∙◌, ap, append_assoc}
 use Rattle.ratio_terms.specs.declared.part.Part.{Part}
 use Rattle.ratio_terms.specs.Terms.{Term, Whole, Area, Pythagoras, Ratio, Sum, Product, are_terms, terms_of, joined, parts_of, points_of, PartsOfTerms, PartsAreWhole}
 

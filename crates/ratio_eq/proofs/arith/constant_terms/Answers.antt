@@ -1,4 +1,4 @@
-use Rattle.std.proofs.Common.{ℕ, List, ◌∷◌, ◌++◌, [], ◌∙◌, ap, arith, replicate}
+use Rattle.std.proofs.Common.{List, ◌∷◌, ◌++◌, [], ◌∙◌, ap, arith, replicate}
 use Rattle.std.specs.Prelude.{ℤ}
 use mir.Syntax.{w128}
 use mir.Val.{to_z}

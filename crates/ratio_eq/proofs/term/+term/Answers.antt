@@ -1,8 +1,7 @@
-use Rattle.std.proofs.Common.{◌≡◌, ◌<◌, sym, ◌∙◌, ap, arith, length, subst, drop, ◌∷◌}
+use Rattle.std.proofs.Common.{◌<◌, sym, ◌∙◌, ap, arith, length, subst, drop}
 use Rattle.std.proofs.lemmas.Result.{err_from_is_err_and}
 use Rattle.std.proofs.lemmas.List.{length-drop}
-use Rattle.ratio_eq.specs.Outcomes.{Gives}
-use Rattle.ratio_eq.specs.Taking.{bounded_first, TakesFirst, AreWhole, formed_of}
+use Rattle.ratio_eq.specs.Taking.{AreWhole}
 use Rattle.ratio_eq.proofs.Forming as forming
 use Rattle.ratio_eq.proofs.Taking.{two}
 use Rattle.ratio_eq.proofs.term.+term.Goals as goal
@@ -30,7 +29,7 @@ term-requires-2 t c =
     let below : length c.behind.result.now < length c.args.parts.now = omega (arith, l, e, w) in (
       subst (λ n. length c.behind.result.now < n) c.decreases below,
       subst (AreWhole c.behind.result.now) (sym c.behind-2.ensures) (subst (λ q. AreWhole q (drop c.in_ok-first.first.spots c.args.spots.now)) (sym c.behind.ensures)
-      (forming.next _ c.in-Some.part.now c.in-Some.inner.now c.args.spots.now c.in-Some.ensures.cases.0 c.requires pair _ _ c.in_ok-first.ensures.takes _ c.in_ok-first.ensures.value)),
+          (forming.next _ c.in-Some.part.now c.in-Some.inner.now c.args.spots.now c.in-Some.ensures.cases.0 c.requires pair _ _ c.in_ok-first.ensures.takes _ c.in_ok-first.ensures.value)),
     )
 
 pub returns-in_err-second-clause-value : goal.returns-in_err-second-clause-value
