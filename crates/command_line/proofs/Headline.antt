@@ -23,7 +23,7 @@ use Rattle.log_checker.specs.Checked.{AreOf}
 use Rattle.log_checker.specs.Answers.{Finding, Accepted, Malformed, Rejected, IsFound, IsAcceptedText}
 use Rattle.prove_run.specs.Whole.{HasCounts}
 use Rattle.command_line.specs.Answer.{Answer, read_fault, too_large, text_answer, answer_from}
-use Rattle.command_line.specs.Checking.{answer_to, IsChecked, HasProblems, IsCompared, IsComparedWith, stated_in}
+use Rattle.command_line.specs.Checking.{answer_to, IsChecked, HasProblems, IsCheckedAgainst, IsCompared, IsComparedWith, stated_in}
 use Rattle.command_line.specs.Figures.{IsAssuredOf}
 use Rattle.command_line.specs.Headline.{Headline, IsWritten, ProvesOf, ShowsProofs, ShowsLog, ShowsFigures, assured_lines, assured_so, ProvedIsAssured}
 use Rattle.command_line.specs.Readings.{Reading, readings_of}
@@ -194,19 +194,23 @@ not_longer a b le = grind (arith, nat_tests)
 checked_alone : (proofs : List Proof) → IsSure proofs → (log : List ℕ)
     → IsAnswerOf (Some (CheckOf log None)) (Some (log_text proofs) ∷ []) (text_answer (assured_lines proofs))
 checked_alone proofs sure log =
-    of_bytes MOST_LOG_BYTES (Some (log_text proofs)) (log_text proofs) _ _ refl (not_longer (length (log_text proofs)) MOST_LOG_BYTES sure.whole.bytes)
-    (record { finding = Accepted proofs; found = accepted_text proofs sure; answer = refl })
+    let text = log_text proofs in
+    let a = text_answer (assured_lines proofs) in
+    let alone : IsChecked text a = record { finding = Accepted proofs; found = accepted_text proofs sure; answer = refl } in
+    of_bytes MOST_LOG_BYTES (Some text) text (λ bytes b. IsChecked bytes b) a refl (not_longer (length text) MOST_LOG_BYTES sure.whole.bytes) alone
 
 checked_against : (source : List ℕ) (proofs : List Proof) → nat_lt MOST_BYTES (length source) ≡ false → proofs_of source ≡ Ok proofs → IsSure proofs
     → (log file : List ℕ)
     → IsAnswerOf (Some (CheckOf log (Some file))) (Some (log_text proofs) ∷ Some source ∷ []) (text_answer (assured_lines proofs))
 checked_against source proofs fits made sure log file =
+    let text = log_text proofs in
     let a = text_answer (assured_lines proofs) in
-    let against : IsComparedWith (Ok (map equations (problems_in proofs))) (log_text proofs) source a =
+    let against : IsComparedWith (Ok (map equations (problems_in proofs))) text source a =
     record { finding = Accepted proofs; found = accepted_text proofs sure; answer = inl (refl, refl) } in
-    of_bytes MOST_LOG_BYTES (Some (log_text proofs)) (log_text proofs) _ _ refl (not_longer (length (log_text proofs)) MOST_LOG_BYTES sure.whole.bytes)
-    (of_bytes MOST_BYTES (Some source) source _ _ refl fits
-    (subst (λ s. IsComparedWith s (log_text proofs) source a) (sym (log-stated source proofs made)) against))
+    let compared : IsCheckedAgainst text source a = subst (λ s. IsComparedWith s text source a) (sym (log-stated source proofs made)) against in
+    of_bytes MOST_LOG_BYTES (Some text) text (λ bytes b. OfFile MOST_BYTES (Some source) (λ other c. IsCheckedAgainst bytes other c) b) a refl
+    (not_longer (length text) MOST_LOG_BYTES sure.whole.bytes)
+    (of_bytes MOST_BYTES (Some source) source (λ other c. IsCheckedAgainst text other c) a refl fits compared)
 
 pub proved_assured : ProvedIsAssured
 proved_assured files file log a h has there =
@@ -255,6 +259,7 @@ module _ {M : Type 0} (o : Operations M) (cover : TreesCover o) (hold : Verdicts
   module _ (held : Option Files) (out_old out_new : Option (List ℕ)) (status : Status) where
     proofs_shown : (file : List ℕ) → IsWritten status → Written held (file ∷ []) (IsAnswerOf (Some (ProveOf file))) out_old out_new status
         → ShowsProofs o held file out_old out_new
+    unfolding proves_of was_proved
     proofs_shown file written w = by w.read.readings w.read.over w.read.own where
       has : IsWritten w.answer.status
       has = subst IsWritten (sym w.is) written
