@@ -1,5 +1,5 @@
 -- What a run reads of the files that it is to read.
-use Rattle.std.specs.Prelude.{◌≡◌, ℕ, ◌≤◌, List, [], ◌∷◌, length, map, Option, None}
+use Rattle.std.specs.Prelude.{ℕ, ◌≤◌, List, [], ◌∷◌, length, map, Option, None}
 use Rattle.desk_io.specs.Files.{Files, Lacks, file_of}
 use Rattle.log_checker.specs.Checked.{AreOf}
 

@@ -1,4 +1,4 @@
-use Rattle.std.proofs.Common.{[], ◌∷◌, ap, sym, subst}
+use Rattle.std.proofs.Common.{[], ap, sym, subst}
 use Rattle.gcl_reader.specs.declared.limits.TheConstants.{MOST_BYTES}
 use Rattle.command_line.specs.Checking.{stated_in}
 use Rattle.command_line.specs.Found.{IsAnswerBehind}

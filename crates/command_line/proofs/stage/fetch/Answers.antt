@@ -1,4 +1,4 @@
-use Rattle.std.proofs.Common.{◌∙◌, Err, ap, refl, inr, arith}
+use Rattle.std.proofs.Common.{Err, ap, refl, inr, arith}
 use Rattle.log_checker.proofs.Readings.{many_bytes}
 use Rattle.command_line.specs.Answer.{read_fault, too_large}
 use Rattle.command_line.proofs.Dues.{given, due_large, due_fault}
