@@ -14,3 +14,4 @@ mod Assured
 mod Figures
 mod Headline
 pub mod Trials
+pub mod Counts

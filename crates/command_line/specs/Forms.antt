@@ -1,5 +1,5 @@
 -- The form that the program takes the words for.
-use Rattle.std.specs.Prelude.{Option, Some, None}
+use Rattle.std.specs.Prelude.{ℕ, Option, Some, None}
 use Rattle.std.specs.Option.{option_copied}
 use Rattle.command_line.specs.Table.{Form, TextOf, ProveOf, CheckOf, TrialOf}
 use Rattle.command_line.specs.Command.{Command}
@@ -25,3 +25,12 @@ form_seen (Prove name) = Some (ProveOf name.now)
 form_seen (ProveTogether name workers) = Some (ProveOf name.now)
 form_seen (Check log file) = Some (CheckOf log.now (option_copied file))
 form_seen (Trial number workers) = Some (TrialOf number)
+
+-- How many workers the program hands over to the prover; nothing where no thread is started.
+abbrev pub workers_seen : Invocation → Option ℕ
+workers_seen Wrong = None
+workers_seen (Text form name) = None
+workers_seen (Prove name) = None
+workers_seen (ProveTogether name workers) = Some workers.count
+workers_seen (Check log file) = None
+workers_seen (Trial number workers) = Some workers.count

@@ -5,6 +5,7 @@ pub mod Proving
 pub mod Checking
 pub mod Found
 pub mod Trials
+pub mod Readings
 pub mod Table
 pub mod Command
 pub mod Pipeline
