@@ -119,7 +119,7 @@ pub there : (f : Held → Polynomial) (hs : List Held) (j : ℕ) → 1 ≤ j →
 there f hs j low high = and_from (nat_lt 0 j) (nat_le j (length (map f hs))) (lt-ltb 0 j (omega (arith, low))) (le-leb j (length (map f hs)) (let l = length-map hs f in omega (arith, high, l)))
 
 -- ---- numbers and zeros
-suc-zero : (n : ℕ) → (suc n == 0) ≡ false
+pub suc-zero : (n : ℕ) → (suc n == 0) ≡ false
 suc-zero n = ne_eqb (suc n) 0 (λ e. omega (arith, e))
 
 pub number-told : (N : List Polynomial) (h : Held) (p : Polynomial) → Tells N h p → is_nonzero_constant p ≡ ((h.class == 0) && not (h.terms == 0))

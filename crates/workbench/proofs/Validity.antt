@@ -147,6 +147,27 @@ cancel-is version base s b g q h p st n m =
     && (not (is_constant (f.here j)) && (not (is_constant (at j)) && shares_variable 0 (one_monomial (at j)) (f.here j))))
     ∙ (λ j. and-true (has_second version) j && (not (sym f.tells.class j == 0) && cancels_in (polynomial_at s p) (held_at s h))))
 
+pub conditioned : (ps qs : List Poly) (j : ℕ) (p : Poly) → ps ≡ qs → IsCondition ps j p → IsCondition qs j p
+conditioned ps qs j p e n = subst (λ l. IsCondition l j p) e n
+
+pub condition-found : (base s : State) (b : Bench) (q : ℕ) (p : Poly) → Stands base s [] b → IsCondition b.nes.items q p → IsPoly s p
+condition-found base s b q p st m =
+    let parts = and_parts (nat_lt 0 q) (nat_le q (length b.nes.items)) m.there in
+    let low = ltb-true 0 q parts.0 in
+    let high = leb-true q (length b.nes.items) parts.1 in
+    benches.condition-poly base s [] b (q - 1) p st (omega (arith, low, high)) m.at
+
+pub cancel-may : (version : ℕ) (base s : State) (b : Bench) (g q : ℕ) (h : Held) (p : Poly) → Stands base s [] b → IsNumbered b.eqs.items g h → IsCondition b.nes.items q p
+    → has_second version ≡ true → h.class ≢ 0 → cancels_in (polynomial_at s p) (held_at s h) ≡ is_valid version (node_at s b) (attempt.Cancel g q)
+cancel-may version base s b g q h p st n m second some =
+    sym (λ j. second j && (not (ne_eqb h.class 0 some j) && cancels_in (polynomial_at s p) (held_at s h))) ∙ cancel-is version base s b g q h p st n m
+
+pub cancel-constant : (version : ℕ) (base s : State) (b : Bench) (g q : ℕ) (h : Held) (p : Poly) → Stands base s [] b → IsNumbered b.eqs.items g h → IsCondition b.nes.items q p
+    → has_second version ≡ true → h.class ≡ 0 → not (h.class == 0) ≡ is_valid version (node_at s b) (attempt.Cancel g q)
+cancel-constant version base s b g q h p st n m second none =
+    ap not (eq-eqb h.class 0 none)
+    ∙ sym (λ j. second j && (not (eq-eqb h.class 0 none j) && cancels_in (polynomial_at s p) (held_at s h))) ∙ cancel-is version base s b g q h p st n m
+
 pub part-is : (version : ℕ) (base s : State) (b : Bench) (f : ℕ) (h : Held) → Stands base s [] b → IsNumbered b.eqs.items f h
     → (has_second version && not (h.factor == 0)) ≡ is_valid version (node_at s b) (attempt.Factor f)
 part-is version base s b f h st n =

@@ -1,7 +1,7 @@
 -- The condition that is void, by the searches.
 use Rattle.std.proofs.Common.{◌≡◌, ℕ, ◌+◌, ◌-◌, ◌<◌, ◌≤◌, zero, suc, List, [], ◌∷◌, length, map, get_or, refl, sym, ◌∙◌, ap, subst, arith, Bool, true, false, ◌&&◌, not}
-use Rattle.std.specs.Prelude.{◌==◌, Option, Some, None, Result, Err, is_none, is_some, unwrap_or, option_map, nat_le, if◌then◌else◌}
-use Rattle.std.proofs.lemmas.Bool.{and_parts, eqb-false, not-true}
+use Rattle.std.specs.Prelude.{◌==◌, ℤ, Option, Some, None, Result, Ok, Err, is_none, is_some, unwrap_or, option_map, nat_le, if◌then◌else◌}
+use Rattle.std.proofs.lemmas.Bool.{and_parts, eq-eqb, eqb-false, not-true}
 use Rattle.std.proofs.lemmas.List.{length-map}
 use Rattle.poly_model.specs.Bounded.{bounded_reduction}
 use Rattle.poly_model.specs.Polynomial.{Polynomial}
@@ -10,16 +10,21 @@ use Rattle.poly_model.specs.declared.limits.TheConstants.{MOST_VARIABLES}
 use Rattle.poly_model.proofs.Within.{within-of}
 use Rattle.polynomials.proofs.Reading.{class-within}
 use Rattle.polynomials.specs.Held.{IsPoly}
-use Rattle.poly_model.specs.Reduction.{class_of, degree_at, is_constant, reaches, reduction_of, same}
+use Rattle.poly_model.specs.Reduction.{class_of, degree_at, is_constant, main_degree, reaches, reduction_of, same}
+use Rattle.poly_model.specs.Standard.{is_standard, polynomial_of}
+use Rattle.poly_model.specs.declared.term.Term.{Term}
+use Rattle.poly_model.proofs.Reductions.{bounded_reduction-is}
 use Rattle.proof_steps.specs.Numbers.{item, has, first, first_from}
 use Rattle.proof_steps.specs.Rules.{has_known_initial, is_void, reduction_limit}
 use Rattle.proof_steps.specs.Work.{Next, Solved, Voided, first_second, void_due}
 use Rattle.proof_steps.specs.declared.piece.Node.{Node}
 use Rattle.proof_steps.specs.declared.version.TheConstants.{VERSION}
-use Rattle.term_store.specs.States.{State}
-use Rattle.workbench.specs.Standing.{AllTell, held_at, node_at}
+use Rattle.term_store.specs.Changes.{Keeps}
+use Rattle.term_store.specs.States.{State, list_at}
+use Rattle.workbench.specs.Searches.{place_of}
+use Rattle.workbench.specs.Standing.{AllTell, held_at, held_slot, node_at}
 use Rattle.workbench.specs.Voids.{AreTold, IsTold, is_reducer, may_reduce, leaves_nothing, is_voided_by, voider_in, voided_at, void_next}
-use Rattle.workbench.proofs.Tried.{limit-met}
+use Rattle.workbench.proofs.Tried.{limit-met, limit-none}
 use Rattle.workbench.specs.declared.bench.Bench.{Bench}
 use Rattle.workbench.specs.declared.bench.Held.{Held}
 use Rattle.workbench.proofs.Tied.{found, item-next, some_place, suc-zero, there}
@@ -55,13 +60,13 @@ void-from : (s : State) (b : Bench) (k : ℕ) (N : List Polynomial) → AllTell 
     → ((i : ℕ) → i < length N → item (node_at s b).nes (suc k + i) ≡ get_or N i []) → ((i : ℕ) → i < length N → has (node_at s b).nes (suc k + i) ≡ true)
     → unwrap_or (option_map (λ j. Voided j (unwrap_or (by_second (node_at s b) j) 0)) (first_from (λ j. is_some (by_second (node_at s b) j)) (length N) (suc k))) Solved
     ≡ void_next (voided_at s b.eqs.items (suc k) N)
-void-from s b k [] t at in = refl
-void-from s b k (q ∷ N) t at in =
+void-from s b k [] t at there = refl
+void-from s b k (q ∷ N) t at there =
     let n = node_at s b in
     let zeroth : suc k ≡ suc k + 0 = omega arith in
-    let one = void-one s b (suc k) q t (ap (has n.nes) zeroth ∙ in 0 (omega arith)) (ap (item n.nes) zeroth ∙ at 0 (omega arith)) in
+    let one = void-one s b (suc k) q t (ap (has n.nes) zeroth ∙ there 0 (omega arith)) (ap (item n.nes) zeroth ∙ at 0 (omega arith)) in
     let next : (i : ℕ) → suc (suc k) + i ≡ suc k + suc i = λ i. omega arith in
-    let rest = void-from s b (suc k) N t (λ i low. ap (item n.nes) (next i) ∙ at (suc i) (omega (arith, low))) (λ i low. ap (has n.nes) (next i) ∙ in (suc i) (omega (arith, low))) in
+    let rest = void-from s b (suc k) N t (λ i low. ap (item n.nes) (next i) ∙ at (suc i) (omega (arith, low))) (λ i low. ap (has n.nes) (next i) ∙ there (suc i) (omega (arith, low))) in
     by (voider_in s b.eqs.items q) one rest
   where
     whole : Option ℕ → Next
@@ -124,3 +129,33 @@ limit-void s h q l e =
     by false b c d e = refl
     by true false c d e = refl
     by true true c d e = sym (ap (λ x. x && d) e)
+
+-- nothing is left, where no limit is met
+pub nothing-void : (s : State) (h : Held) (q : Polynomial) (r : ℤ × Polynomial) (xs : List Term) (n : ℕ) → is_standard q ≡ true → is_standard (held_at s h) ≡ true
+    → (is_reducer h && may_reduce h q) ≡ true → bounded_reduction q (held_at s h) ≡ Ok r → polynomial_of xs ≡ r.1 → n ≡ length xs → (n == 0) ≡ is_voided_by s h q
+nothing-void s h q r xs n sq sh may is at count =
+    let H = held_at s h in
+    let limit : reduction_limit q H ≡ None = limit-none q H r is in
+    let whole : r ≡ reduction_of q H = bounded_reduction-is MOST_VARIABLES q H r (within-of q sq).descending (within-of H sh).descending is in
+    let empty : (n == 0) ≡ same (reduction_of q H).1 [] = ap (λ k. k == 0) count ∙ none xs ∙ ap (λ p. same p []) (at ∙ ap (λ (y : ℤ × Polynomial). y.1) whole) in
+    let a = and_parts (is_reducer h) (may_reduce h q) may in
+    empty ∙ sym (λ i. a.0 i && (a.1 i && (is_none (limit i) && same (reduction_of q H).1 [])))
+  where
+    none : (xs : List Term) → (length xs == 0) ≡ same (polynomial_of xs) []
+    none [] = refl
+    none (x ∷ xs) = suc-zero (length xs)
+
+-- ---- calls that keep the store
+pub told-keeps : (s t : State) (hs : List Held) → Keeps s t → AreTold s hs → AreTold t hs
+told-keeps s t [] k a = tt
+told-keeps s t (h ∷ hs) k a =
+    let same : held_at t h ≡ held_at s h = λ i. polynomial_of (list_at (k.lists i) (held_slot h)) in
+    (record { class = a.0.class ∙ ap class_of (sym same); degree = a.0.degree ∙ ap main_degree (sym same) }, told-keeps s t hs k a.1)
+
+pub voider-keeps : (s t : State) (hs : List Held) (q : Polynomial) → Keeps s t → voider_in t hs q ≡ voider_in s hs q
+voider-keeps s t hs q k =
+    λ i. place_of (λ n h. is_reducer h && (may_reduce h q && (is_none (reduction_limit q (polynomial_of (list_at (k.lists i) (held_slot h)))) && same (reduction_of q (polynomial_of (list_at (k.lists i) (held_slot h)))).1 []))) 1 hs
+
+-- the search goes on behind a condition that none makes void
+pub voided-next : (s : State) (hs : List Held) (k : ℕ) (q : Polynomial) (N : List Polynomial) → voider_in s hs q ≡ 0 → voided_at s hs (suc k) N ≡ voided_at s hs k (q ∷ N)
+voided-next s hs k q N e = sym (ap (λ b. if b then voided_at s hs (suc k) N else (k, voider_in s hs q)) (eq-eqb (voider_in s hs q) 0 e))

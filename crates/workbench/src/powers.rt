@@ -1,9 +1,9 @@
 // Variables that divide polynomials, and polynomials from which they are divided out.
-ghost use Rattle.std.specs.Prelude.{◌≡◌, ◌≢◌, ◌<◌, ◌≤◌, ◌-◌, ◌∷◌, [], IfOk, length, map};
+ghost use Rattle.std.specs.Prelude.{◌≡◌, ◌≢◌, ◌<◌, ◌≤◌, ◌+◌, ◌-◌, ◌∷◌, [], true, IfOk, length, map};
 ghost use Rattle.poly_model.specs.Polynomial.{poly_variable};
 ghost use Rattle.poly_model.specs.Powers.{is_divided, one_monomial, shares_variable, without_variables};
 ghost use Rattle.poly_model.specs.Reduction.{class_of};
-ghost use Rattle.poly_model.specs.Standard.{polynomial_of};
+ghost use Rattle.poly_model.specs.Standard.{is_standard, polynomial_of};
 ghost use Rattle.poly_model.specs.declared.limits.TheConstants.{ARITH_UNITS, MOST_VARIABLES, POLY_UNITS};
 ghost use Rattle.polynomials.specs.Held.{Gives, IsPoly, polynomial_at};
 ghost use Rattle.workbench.specs.Known.{all_have, cancel_number, cancels_in, factor_number, variable_number};
@@ -67,11 +67,18 @@ pub fn variable_of(alloc: Global, x: u8) -> Result<OwnedPoly, AllocError>
 
 /// The number of the variable that the polynomial of a class is.
 pub fn variable_number(terms: &[Term], class: u8) -> u8
+    requires standard { is_standard (polynomial_of terms.now) ≡ true }
     requires class { class ≡ class_of (polynomial_of terms.now) }
     requires within { class ≤ MOST_VARIABLES }
     ensures { result ≡ variable_number (polynomial_of terms.now) }
 {
-    if class != 0 && terms.len() == 1 && terms[0] == variable(class - 1) {
+    if class == 0 {
+        return 0;
+    }
+    if terms.len() != 1 {
+        return 0;
+    }
+    if terms[0] == variable(class - 1) {
         class
     } else {
         0

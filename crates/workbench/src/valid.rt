@@ -34,9 +34,13 @@ pub fn may_drop<S: TermStore>(version: u8, s: &S, bench: &Bench, i: u16) -> bool
     let Some(h) = numbered(&bench.eqs, i) else {
         return false;
     };
-    h.terms == 0
-        || is_among(s, &bench.eqs[..i as usize - 1], &h)
-        || (has_second(version) && is_multiple(s, &bench.eqs, &h))
+    if h.terms == 0 {
+        return true;
+    }
+    if is_among(s, &bench.eqs[..i as usize - 1], &h) {
+        return true;
+    }
+    has_second(version) && is_multiple(s, &bench.eqs, &h)
 }
 
 /// The degree of the polynomial reaches that of the equation in its greatest variable.

@@ -1,9 +1,13 @@
-use Rattle.std.proofs.Common.{◌≡◌, ◌<◌, ◌-◌, length, map, refl, sym, subst, ap, arith, ◌∙◌}
+use Rattle.std.proofs.Common.{◌≡◌, ◌<◌, ◌-◌, [], get_or, length, map, refl, sym, subst, ap, arith, ◌∙◌}
 use Rattle.poly_model.specs.Reduction.{same}
 use Rattle.polynomials.specs.Held.{polynomial_at}
 use Rattle.workbench.specs.Standing.{node_at, held_at, AreFound, AreHeld, AreWithin}
 use Rattle.workbench.specs.Searches as searches
 use Rattle.workbench.proofs.Benches as benches
+use Rattle.std.proofs.lemmas.List.{length-map}
+use Rattle.workbench.specs.Known.{cancel_number}
+use Rattle.workbench.specs.declared.bench.Held.{Held}
+use Rattle.workbench.proofs.Known as known
 use Rattle.workbench.proofs.Tied as tied
 use Rattle.workbench.proofs.Choice as choice
 use Rattle.workbench.proofs.order.due.Goals as goal
@@ -62,6 +66,21 @@ returns-then-i-ne0-3-clause-next g c =
     let below : c.clashed-i.result - 1 < length b.eqs.items = (let l = ap length c.deref-3.ensures.value in let w = c.clashed-i.ensures.within in let z = c.if-i-ne0-3.true in omega (arith, l, w, z)) in
     choice.due-clash s b t c.clashed-i.result c.number_among-j.result x (sym d ∙ c.if-i-ne0.false) (sym n ∙ c.if-i-ne0-2.false) q c.if-i-ne0-3.true below c.index.ensures j
 
+pub overflow_cast-result-then-i-ne0-4-2 : goal.overflow_cast-result-then-i-ne0-4-2
+overflow_cast-result-then-i-ne0-4-2 g c =
+    let s = g.S.TermStore.state c.args.s.now in
+    let b = c.args.bench.now in
+    let x = c.index-then-i-ne0-4.result.now in
+    let i = c.cancelled-i.result - 1 in
+    let below : i < length b.eqs.items = (let l = ap length c.deref-5.ensures.value in let w = c.cancelled-i.ensures.within in let z = c.if-i-ne0-4.true in omega (arith, l, w, z)) in
+    let tells = benches.tell-at (node_at s b).nes b.eqs.items (node_at s b).eqs i x below c.requires.stands.tell in
+    let p = get_or (node_at s b).eqs i [] in
+    let is : x.cancels ≡ cancel_number (node_at s b).nes p = ap (λ (h : Held). h.cancels) c.index-then-i-ne0-4.ensures ∙ tells.cancels in
+    let within = known.cancel-within (node_at s b).nes p in
+    let long : length (node_at s b).nes ≡ length b.nes.items = length-map b.nes.items (polynomial_at s) in
+    let few = c.requires.few_nes in
+    omega (arith, is, within, long, few)
+
 pub returns-then-i-ne0-4-clause-next : goal.returns-then-i-ne0-4-clause-next
 returns-then-i-ne0-4-clause-next g c =
     let s = g.S.TermStore.state c.args.s.now in
@@ -72,9 +91,9 @@ returns-then-i-ne0-4-clause-next g c =
     let q : c.clashed-i.result ≡ searches.clashed_in (held_at s) (node_at s b).nes b.eqs.items =
     c.clashed-i.ensures.place ∙ (λ i. searches.clashed_in (held_at s) (map (polynomial_at s) (c.deref-4.ensures.value i)) (c.deref-3.ensures.value i)) in
     let a : c.cancelled-i.result ≡ searches.cancelled_in b.eqs.items = c.cancelled-i.ensures.place ∙ ap searches.cancelled_in c.deref-5.ensures.value in
-    let x = c.index-2.result.now in
+    let x = c.index-then-i-ne0-4.result.now in
     let below : c.cancelled-i.result - 1 < length b.eqs.items = (let l = ap length c.deref-5.ensures.value in let w = c.cancelled-i.ensures.within in let z = c.if-i-ne0-4.true in omega (arith, l, w, z)) in
-    choice.due-cancel s b t c.cancelled-i.result x.cancels x (sym d ∙ c.if-i-ne0.false) (sym n ∙ c.if-i-ne0-2.false) (sym q ∙ c.if-i-ne0-3.false) a c.if-i-ne0-4.true below c.index-2.ensures refl
+    choice.due-cancel s b t c.cancelled-i.result x.cancels x (sym d ∙ c.if-i-ne0.false) (sym n ∙ c.if-i-ne0-2.false) (sym q ∙ c.if-i-ne0-3.false) a c.if-i-ne0-4.true below c.index-then-i-ne0-4.ensures refl
 
 pub returns-then-i-ne0-5-clause-next : goal.returns-then-i-ne0-5-clause-next
 returns-then-i-ne0-5-clause-next g c =

@@ -25,22 +25,22 @@ returns-then-x-ne0-clause-next g c =
     let x : c.unsettled-x.result ≡ unsettled_class (node_at s b) = c.unsettled-x.ensures ∙ ap searches.unsettled_in c.deref.ensures.value ∙ tied.unsettled-tied (node_at s b) b.eqs.items c.requires.stands.tell in
     ap Try c.work_on.ensures.attempt ∙ choice.class-some (node_at s b) c.unsettled-x.result c.if-x-ne0.true x
 
-pub voided-requires-clause-hs : goal.voided-requires-clause-hs
-voided-requires-clause-hs g c = subst (AreFound (g.S.TermStore.state c.args.s.now)) (sym c.deref-2.ensures.value) (choice.found-all _ _ _ c.args.bench.now c.requires.stands)
+pub voided-j-requires-clause-hs : goal.voided-j-requires-clause-hs
+voided-j-requires-clause-hs g c = subst (AreFound (g.S.TermStore.state c.args.s.now)) (sym c.deref-2.ensures.value) (choice.found-all _ _ _ c.args.bench.now c.requires.stands)
 
-pub voided-requires-clause-tell : goal.voided-requires-clause-tell
-voided-requires-clause-tell g c = subst (AreTold (g.S.TermStore.state c.args.s.now)) (sym c.deref-2.ensures.value) (voids.all-told _ _ _ c.requires.stands.tell)
+pub voided-j-requires-clause-tell : goal.voided-j-requires-clause-tell
+voided-j-requires-clause-tell g c = subst (AreTold (g.S.TermStore.state c.args.s.now)) (sym c.deref-2.ensures.value) (voids.all-told _ _ _ c.requires.stands.tell)
 
-pub voided-requires-clause-nes : goal.voided-requires-clause-nes
-voided-requires-clause-nes g c = subst (AreHeld (g.S.TermStore.state c.args.s.now)) (sym c.deref-3.ensures.value) (benches.conditions-held _ _ _ c.args.bench.now c.requires.stands)
+pub voided-j-requires-clause-nes : goal.voided-j-requires-clause-nes
+voided-j-requires-clause-nes g c = subst (AreHeld (g.S.TermStore.state c.args.s.now)) (sym c.deref-3.ensures.value) (benches.conditions-held _ _ _ c.args.bench.now c.requires.stands)
 
 pub returns-then-j-eq0-clause-next : goal.returns-then-j-eq0-clause-next
 returns-then-j-eq0-clause-next g c =
     let s = g.S.TermStore.state c.args.s.now in
     let b = c.args.bench.now in
     let x : c.unsettled-x.result ≡ unsettled_class (node_at s b) = c.unsettled-x.ensures ∙ ap searches.unsettled_in c.deref.ensures.value ∙ tied.unsettled-tied (node_at s b) b.eqs.items c.requires.stands.tell in
-    let r : c.voided.result ≡ voided_at s b.eqs.items 1 (node_at s b).nes = c.voided.ensures.places ∙ (λ i. voided_at s (c.deref-2.ensures.value i) 1 (map (polynomial_at s) (c.deref-3.ensures.value i))) in
-    sym (ap (λ k. if k then Solved else Voided c.voided.result.0 c.voided.result.1) (eq-eqb c.voided.result.0 0 c.if-j-eq0.true))
+    let r : c.voided-j.result ≡ voided_at s b.eqs.items 1 (node_at s b).nes = c.voided-j.ensures.places ∙ (λ i. voided_at s (c.deref-2.ensures.value i) 1 (map (polynomial_at s) (c.deref-3.ensures.value i))) in
+    sym (ap (λ k. if k then Solved else Voided c.voided-j.result.0 c.voided-j.result.1) (eq-eqb c.voided-j.result.0 0 c.if-j-eq0.true))
     ∙ ap void_next r ∙ sym (voids.void-found s b c.requires.stands.tell) ∙ choice.class-none (node_at s b) (sym x ∙ c.if-x-ne0.false)
 
 pub returns-clause-next : goal.returns-clause-next
@@ -48,6 +48,6 @@ returns-clause-next g c =
     let s = g.S.TermStore.state c.args.s.now in
     let b = c.args.bench.now in
     let x : c.unsettled-x.result ≡ unsettled_class (node_at s b) = c.unsettled-x.ensures ∙ ap searches.unsettled_in c.deref.ensures.value ∙ tied.unsettled-tied (node_at s b) b.eqs.items c.requires.stands.tell in
-    let r : c.voided.result ≡ voided_at s b.eqs.items 1 (node_at s b).nes = c.voided.ensures.places ∙ (λ i. voided_at s (c.deref-2.ensures.value i) 1 (map (polynomial_at s) (c.deref-3.ensures.value i))) in
-    sym (ap (λ k. if k then Solved else Voided c.voided.result.0 c.voided.result.1) (ne_eqb c.voided.result.0 0 c.if-j-eq0.false))
+    let r : c.voided-j.result ≡ voided_at s b.eqs.items 1 (node_at s b).nes = c.voided-j.ensures.places ∙ (λ i. voided_at s (c.deref-2.ensures.value i) 1 (map (polynomial_at s) (c.deref-3.ensures.value i))) in
+    sym (ap (λ k. if k then Solved else Voided c.voided-j.result.0 c.voided-j.result.1) (ne_eqb c.voided-j.result.0 0 c.if-j-eq0.false))
     ∙ ap void_next r ∙ sym (voids.void-found s b c.requires.stands.tell) ∙ choice.class-none (node_at s b) (sym x ∙ c.if-x-ne0.false)

@@ -23,14 +23,14 @@ use Rattle.workbench.proofs.splitting.factor.Goals as goal
 pub copy_in-gain-requires : goal.copy_in-gain-requires
 copy_in-gain-requires g c = let e = benches.room-left _ _ c.args.bench.now c.requires.stands in let r = c.requires.room in omega (arith, e, r)
 
-pub class_number-requires : goal.class_number-requires
-class_number-requires g c = benches.gives-poly _ _ _ _ c.copy_in-gain.ensures
+pub class_number-var-requires : goal.class_number-var-requires
+class_number-var-requires g c = benches.gives-poly _ _ _ _ c.copy_in-gain.ensures
 
 pub overflow_sub-var : goal.overflow_sub-var
 overflow_sub-var g c =
     let n = node_at (g.S.TermStore.state c.args.s.now) c.args.bench.now in
     let low = (tried.factored (item n.eqs c.args.f) c.args.v.now (tried.factor-has c.args.version n c.args.f c.args.v.now c.requires.valid)).low in
-    let e = c.class_number.ensures.class ∙ ap class_of c.copy_in-gain.ensures.value in
+    let e = c.class_number-var.ensures.class ∙ ap class_of c.copy_in-gain.ensures.value in
     omega (arith, low, e)
 
 pub strip-up-requires-clause-a : goal.strip-up-requires-clause-a
@@ -42,10 +42,10 @@ strip-up-requires-clause-a g c =
 
 pub strip-up-requires-clause-var : goal.strip-up-requires-clause-var
 strip-up-requires-clause-var g c =
-    let w = c.class_number.ensures.within in
+    let w = c.class_number-var.ensures.within in
     let n = node_at (g.S.TermStore.state c.args.s.now) c.args.bench.now in
     let low = (tried.factored (item n.eqs c.args.f) c.args.v.now (tried.factor-has c.args.version n c.args.f c.args.v.now c.requires.valid)).low in
-    let e = c.class_number.ensures.class ∙ ap class_of c.copy_in-gain.ensures.value in
+    let e = c.class_number-var.ensures.class ∙ ap class_of c.copy_in-gain.ensures.value in
     omega (arith, w, low, e)
 
 pub strip-up-requires-clause-some : goal.strip-up-requires-clause-some
@@ -150,7 +150,7 @@ returns-clause-parts g c =
     let there = benches.live-place s b.eqs.items _ i x live place c.index.ensures in
     let gain : polynomial_at u c.copy_in-gain.result ≡ v =
     ap polynomial_of (two (slot_of c.copy_in-gain.result) (making.makes-live s t _ c.copy_in-gain.ensures.makes)).1 ∙ c.copy_in-gain.ensures.value in
-    let var : c.class_number.result - 1 ≡ main_place v = (let e = c.class_number.ensures.class ∙ ap class_of c.copy_in-gain.ensures.value in omega (arith, e)) in
+    let var : c.class_number-var.result - 1 ≡ main_place v = (let e = c.class_number-var.ensures.class ∙ ap class_of c.copy_in-gain.ensures.value in omega (arith, e)) in
     let up : polynomial_at u c.strip-up.result ≡ stripped (main_place v) (item n.eqs c.args.f) =
     c.strip-up.ensures.value ∙ (λ k. stripped (var k) ((ap polynomial_of (one (slot_of x.poly) there).1 ∙ here) k)) in
     let deep : length b.path ≢ MOST_LETTERS = λ e. c.if-len-eq-MOST_LETTERS.false (c.len.ensures.len ∙ e) in
