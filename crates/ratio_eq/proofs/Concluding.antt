@@ -10,8 +10,10 @@ use Rattle.ratio_eq.specs.Bounded.{Formed, bounded_fraction, bounded_equality, b
 use Rattle.ratio_eq.specs.Outcomes.{Fails}
 use Rattle.ratio_eq.specs.declared.fault.RatioFault.{RatioFault}
 use Rattle.ratio_eq.specs.declared.fault.RatioFault.TheVariants as fault
-use Rattle.ratio_eq.specs.Taking.{bounded_first, TakesFirst}
-use Rattle.ratio_eq.proofs.Taking.{count, then-ok, then-met}
+use Rattle.ratio_terms.specs.Taking.{TakesFirst}
+use Rattle.ratio_terms.proofs.Taking.{count}
+use Rattle.ratio_eq.specs.Forming.{bounded_first}
+use Rattle.ratio_eq.proofs.Forming.{then-ok, then-met}
 
 of-two : (l : List (Term (Vector Polynomial))) → length l ≡ 2
     → bounded_conclusion_of l ≡ and_then (bounded_fraction (first_of l)) (λ x. and_then (bounded_fraction (first_of (behind_first l))) (λ y. bounded_equality x y))

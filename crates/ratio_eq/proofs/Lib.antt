@@ -2,7 +2,6 @@ pub mod Numbers
 pub mod Kept
 pub mod Meaning
 pub mod Limits
-pub mod Taking
 pub mod Forming
 pub mod Concluding
 pub mod Worked

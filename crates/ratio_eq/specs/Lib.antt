@@ -3,4 +3,4 @@ pub mod Fractions
 pub mod Bounded
 pub mod Laws
 pub mod Outcomes
-pub mod Taking
+pub mod Forming

@@ -6,7 +6,7 @@ ghost use Rattle.ratio_eq.specs.declared.fault.RatioFault.TheVariants.{OutOfMemo
 ghost use Rattle.ratio_eq.specs.Fractions.{with_new, parts_once};
 ghost use Rattle.ratio_eq.specs.Bounded.{bounded_cross_of, bounded_onto, bounded_equality, concluded};
 ghost use Rattle.ratio_eq.specs.Outcomes.{Gives, same};
-ghost use Rattle.ratio_eq.specs.Taking.{formed_of};
+ghost use Rattle.ratio_eq.specs.Forming.{formed_of};
 
 use crate::arith::{Operation, combined, primitive};
 use crate::fault::RatioFault;

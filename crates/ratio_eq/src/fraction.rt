@@ -4,7 +4,7 @@ ghost use Rattle.ratio_terms.specs.Terms.{operands_of, names_of};
 ghost use Rattle.ratio_eq.specs.declared.fault.RatioFault.TheVariants.{OutOfMemory};
 ghost use Rattle.ratio_eq.specs.Bounded.{formed_over_one, bounded_area, bounded_pythagoras, bounded_ratio, bounded_fraction_sum, bounded_fraction_product};
 ghost use Rattle.ratio_eq.specs.Outcomes.{Gives};
-ghost use Rattle.ratio_eq.specs.Taking.{formed_of, bounded_leaf, bounded_joined};
+ghost use Rattle.ratio_eq.specs.Forming.{formed_of, bounded_leaf, bounded_joined};
 
 use crate::arith::{Operation, combined, number};
 use crate::fault::RatioFault;

@@ -1,7 +1,8 @@
 // The fraction of a term, from its parts in preorder.
 ghost use Rattle.std.specs.Prelude.{◌≡◌, ◌≤◌, length, drop, IfOk};
 ghost use Rattle.ratio_eq.specs.Outcomes.{Gives};
-ghost use Rattle.ratio_eq.specs.Taking.{formed_of, bounded_first, AreWhole, TakesFirst};
+ghost use Rattle.ratio_terms.specs.Taking.{AreWhole, TakesFirst};
+ghost use Rattle.ratio_eq.specs.Forming.{formed_of, bounded_first};
 
 use crate::fault::RatioFault;
 use crate::fraction::{Fraction, joined, leaf};

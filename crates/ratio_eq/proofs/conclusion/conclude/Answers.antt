@@ -1,7 +1,7 @@
 use Rattle.std.proofs.Common.{subst}
 use Rattle.std.proofs.lemmas.Result.{err_from_is_err_and}
 use Rattle.ratio_eq.specs.Outcomes.{Gives, same}
-use Rattle.ratio_eq.specs.Taking.{formed_of}
+use Rattle.ratio_eq.specs.Forming.{formed_of}
 use Rattle.ratio_eq.proofs.Concluding as concluding
 use Rattle.ratio_eq.proofs.conclusion.conclude.Goals as goal
 

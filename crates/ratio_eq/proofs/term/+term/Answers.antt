@@ -1,9 +1,10 @@
 use Rattle.std.proofs.Common.{◌<◌, sym, ◌∙◌, ap, arith, length, subst, drop}
 use Rattle.std.proofs.lemmas.Result.{err_from_is_err_and}
 use Rattle.std.proofs.lemmas.List.{length-drop}
-use Rattle.ratio_eq.specs.Taking.{AreWhole}
+use Rattle.ratio_terms.specs.Taking.{AreWhole}
 use Rattle.ratio_eq.proofs.Forming as forming
-use Rattle.ratio_eq.proofs.Taking.{two}
+use Rattle.ratio_terms.proofs.Taking as taking
+use Rattle.ratio_terms.proofs.Taking.{two}
 use Rattle.ratio_eq.proofs.term.+term.Goals as goal
 
 pub returns-then-operands-eq0-clause-value : goal.returns-then-operands-eq0-clause-value
@@ -12,7 +13,7 @@ returns-then-operands-eq0-clause-value t c =
 
 pub returns-then-operands-eq0-clause-takes : goal.returns-then-operands-eq0-clause-takes
 returns-then-operands-eq0-clause-takes t c =
-    forming.leaf-taken _ c.in-Some.part.now c.in-Some.inner.now c.args.spots.now c.in-Some.ensures.cases.0 c.requires _ (sym c.operands.ensures ∙ c.if-operands-eq0.true) c.names.ensures
+    taking.leaf-taken _ c.in-Some.part.now c.in-Some.inner.now c.args.spots.now c.in-Some.ensures.cases.0 c.requires _ (sym c.operands.ensures ∙ c.if-operands-eq0.true) c.names.ensures
 
 pub returns-in_err-first-clause-value : goal.returns-in_err-first-clause-value
 returns-in_err-first-clause-value t c =
@@ -29,7 +30,7 @@ term-requires-2 t c =
     let below : length c.behind.result.now < length c.args.parts.now = omega (arith, l, e, w) in (
       subst (λ n. length c.behind.result.now < n) c.decreases below,
       subst (AreWhole c.behind.result.now) (sym c.behind-2.ensures) (subst (λ q. AreWhole q (drop c.in_ok-first.first.spots c.args.spots.now)) (sym c.behind.ensures)
-          (forming.next _ c.in-Some.part.now c.in-Some.inner.now c.args.spots.now c.in-Some.ensures.cases.0 c.requires pair _ _ c.in_ok-first.ensures.takes _ c.in_ok-first.ensures.value)),
+          (taking.next _ c.in-Some.part.now c.in-Some.inner.now c.args.spots.now c.in-Some.ensures.cases.0 c.requires pair _ _ c.in_ok-first.ensures.takes)),
     )
 
 pub returns-in_err-second-clause-value : goal.returns-in_err-second-clause-value
@@ -55,5 +56,5 @@ returns-clause-value t c =
 pub returns-clause-takes : goal.returns-clause-takes
 returns-clause-takes t c =
     let pair = two c.in-Some.part.now (λ z. c.if-operands-eq0.false (c.operands.ensures ∙ z)) in
-    forming.joined-taken _ c.in-Some.part.now c.in-Some.inner.now c.args.spots.now c.in-Some.ensures.cases.0 c.requires pair _ _ c.in_ok-first.ensures.takes _ c.in_ok-first.ensures.value _ _
+    taking.pair-taken _ c.in-Some.part.now c.in-Some.inner.now c.args.spots.now c.in-Some.ensures.cases.0 c.requires pair _ _ c.in_ok-first.ensures.takes _ _
     (rw (← c.behind.ensures, ← c.behind-2.ensures) c.in_ok-second.ensures.takes)
