@@ -4,10 +4,13 @@
 A forged log is a log of the examples or of the worked rows with a change at one place: a sign, a digit, a byte, a line left
 out, moved or written twice, a cut, a false header. None may end otherwise than by a status of the program, take more than ten
 seconds, or take more memory than the log that it was made from (and a tenth more). A forged log that is assured is printed with its
-change: whether it is a right log is for a reader to say.
+change. With a second checker, written apart from this program, each answer must be that of the second one too: its status, and what it
+writes.
 
-usage: bench/forged.py [COUNT [SEED]]"""
+usage: bench/forged.py [COUNT [SEED [CHECKER WORD..]]]
+CHECKER WORD.. is a command that takes the name of a log as its last word."""
 import collections
+import os
 import pathlib
 import random
 import subprocess
@@ -78,50 +81,62 @@ def header(lines, chance):
 CHANGES = [sign, digit, byte, left_out, twice, moved, cut, header]
 
 
-def run(path):
-    """The status of `check` (None past the limit of time), what it wrote, and its resident memory in kilobytes."""
-    probe = ["/usr/bin/env", "python3", "-c", RUN, str(PROGRAM), "check", str(path)]
-    try:
-        done = subprocess.run(probe, capture_output=True, timeout=SECONDS)
-    except subprocess.TimeoutExpired:
-        return None, b"", 0
-    status, memory = done.stdout.rsplit(b"\n", 1)[-1].split()
-    return int(status), done.stdout, int(memory)
+def run(path, folder):
+    """The status of `check` (that of a killed one past the limit of time), what it wrote, and its most resident kilobytes.
+
+    A small program waits for it, since the memory of the one that starts a program counts as its own."""
+    told = folder / "memory"
+    done = subprocess.run(["time", "--quiet", "-f", "%M", "-o", told, "timeout", "--signal=KILL", str(SECONDS), PROGRAM, "check", path],
+                          stdout=subprocess.PIPE, stderr=subprocess.STDOUT)
+    return done.returncode, done.stdout, int(told.read_text().split()[-1])
 
 
-# Runs the words, and writes the status and the most memory behind what they wrote.
-RUN = """import resource, subprocess, sys
-status = subprocess.run(sys.argv[1:], stderr=subprocess.STDOUT).returncode
-print(); print(status, resource.getrusage(resource.RUSAGE_CHILDREN).ru_maxrss, end="")
-"""
+def second(checker, path):
+    """The status of another checker, and what it wrote."""
+    done = subprocess.run([*checker, path], stdout=subprocess.PIPE, stderr=subprocess.STDOUT)
+    return done.returncode, done.stdout
+
+
+def forged(count, chance):
+    """So many forged logs: the log that each was made from, the kind of change, what it is, and the text."""
+    logs = sorted([*(TOP / "examples").glob("*.log"), *(TOP / "crates/runs/data/logs").glob("*.log")])
+    texts = {log: log.read_text(encoding="latin-1") for log in logs}
+    while count > 0:
+        log, change = chance.choice(logs), chance.choice(CHANGES)
+        text, what = change(texts[log].split("\n")[:-1], chance)
+        if text != texts[log]:
+            count -= 1
+            yield log, change.__name__, what, text
 
 
 def main():
     count = int(sys.argv[1]) if len(sys.argv) > 1 else 1000
     chance = random.Random(int(sys.argv[2]) if len(sys.argv) > 2 else 1)
-    logs = sorted([*(TOP / "examples").glob("*.log"), *(TOP / "crates/runs/data/logs").glob("*.log")])
-    answers, faults = collections.Counter(), 0
-    with tempfile.TemporaryDirectory() as folder:
-        path = pathlib.Path(folder) / "forged.log"
-        usual = {log: run(log)[2] for log in logs}
-        while sum(answers.values()) < count:
-            log, change = chance.choice(logs), chance.choice(CHANGES)
-            true = log.read_text(encoding="latin-1")
-            text, what = change(true.splitlines(), chance)
-            if text == true:
-                continue
+    checker = sys.argv[3:]
+    answers, faults, usual, most = collections.Counter(), 0, {}, 0
+    with tempfile.TemporaryDirectory() as name:
+        folder = pathlib.Path(name)
+        path = folder / "forged.log"
+        for log, change, what, text in forged(count, chance):
+            if log not in usual:
+                usual[log] = run(log, folder)[2]
             path.write_text(text, encoding="latin-1")
-            status, wrote, memory = run(path)
+            status, wrote, memory = run(path, folder)
+            most = max(most, memory - usual[log])
             word = wrote.split(b": ")[-1].split(b"\n")[0].decode("latin-1") if status == 2 else ""
-            answers[f"{change.__name__}: {status} {word}".strip()] += 1
+            answers[f"{change}: {status} {word}".strip()] += 1
+            told = f"{log.name}, {what}: status {status}, {memory} kB, {wrote}"
             if status not in (0, 2) or memory > usual[log] * 1.1 + 1000:
                 faults += 1
-                print(f"fault: {log.name}, {what}: status {status}, {memory} kB")
+                print(f"fault: {told}")
+            elif checker and second(checker, path) != (status, wrote):
+                faults += 1
+                print(f"fault: another answer of the second checker: {told}")
             elif status == 0:
-                print(f"assured: {log.name}, {what}")
+                print(f"assured: {told}")
     for answer, number in sorted(answers.items()):
         print(f"{number:6} {answer}")
-    print(f"{sum(answers.values())} forged logs, {faults} faults")
+    print(f"{sum(answers.values())} forged logs of {len(usual)} logs, {faults} faults; at most {most} kB more than the log changed")
     return 1 if faults else 0
 
 

@@ -3,12 +3,14 @@
 #   stores.sh products   the instructions of a product over the region and over the store that grows, and how often the region
 #                        moved its lists down in it
 #   stores.sh proofs     the instructions that the proofs of a file take over either, and the time and memory of the smallest file:
-#                        both programs are made of a copy of the repository, in which for the second a worker's room is the
-#                        store that grows; the copy is proved, which takes some minutes
+#                        both programs are proved and built over a copy of the crates, in which for the second a prover's room is
+#                        the store that grows; that takes some minutes
 set -eu
 export LC_ALL=C
 top=$(cd "$(dirname "$0")/.." && pwd)
-command -v valgrind >/dev/null || { echo "stores.sh: valgrind is not here" >&2; exit 1; }
+for tool in valgrind /usr/bin/time; do
+    command -v "$tool" >/dev/null || { echo "stores.sh: $tool is not here" >&2; exit 1; }
+done
 work=$(mktemp -d)
 trap 'rm -rf "$work"' EXIT
 
@@ -39,21 +41,38 @@ product() {
 products() {
     program=$top/crates/runs/out/runs
     [ -x "$program" ] || (cd "$top/crates/runs" && rt run >/dev/null)
-    printf '| terms of each operand | of the result | moves of the lists | instructions | by pair of terms | over the growing store |\n'
+    local width region moved terms growing pairs
+    printf '| terms of each operand | live terms at the end | moves of the lists | instructions | by pair of terms | over the growing store |\n'
     printf '|---|---|---|---|---|---|\n'
-    for width in 4 8 16 22 32; do
+    for width in 4 8 16 22; do
         read -r region moved <<<"$(product region mul "$width")"
         terms=$(sed 's/ terms//' "$work/text")
         read -r growing _ <<<"$(product mul "$width")"
         pairs=$((width * width * width * width))
-        printf '| %d | %s | %d | %d | %d | %d |\n' "$((width * width))" "$terms" "$moved" "$region" "$((region / pairs))" \
-            "$((growing / pairs))"
+        printf '| %d | %d | %d | %d | %d | %d |\n' "$((width * width))" "$((2 * width * width + terms))" "$moved" "$region" \
+            "$((region / pairs))" "$((growing / pairs))"
     done
 }
 
-# A program that proves the statements of a file, and tells how many there are.
+# The crates of these names, and all that they stand on.
+below() {
+    local names= more=$*
+    while [ "$more" != "$names" ]; do
+        names=$more
+        more=$(for name in $names; do echo "$name $(sed -n "s/^$name://p" "$top/crates.txt")"; done | tr ' ' '\n' | sort -u |
+            grep -xFf <(cut -d: -f1 "$top/crates.txt"))
+    done
+    echo "$names"
+}
+
+# A program that proves the statements of a file, and tells how many there are, beside copies of the crates that it stands on.
 make_program() {
     mkdir -p "$1/crates/prover/src"
+    cp "$top/HANDLES" "$1"
+    for name in $(below prove_run gcl_names gcl_reader); do
+        (cd "$top/crates" && tar -cf - --exclude="$name/out" --exclude="$name/must-fail" "$name") | tar -xf - -C "$1/crates"
+        grep "^$name:" "$top/crates.txt" >>"$1/crates.txt"
+    done
     cat >"$1/crates/prover/src/main.rt" <<'RT'
 //! Proves the statements of a file.
 #![tactic(auto)]
@@ -68,7 +87,7 @@ fn main(rt: HostRuntime) -> Result<()> {
     let alloc = rt.alloc();
     let words: Vec<String> = env::args(&rt)?.skip(1).collect(alloc)?;
     let [name] = words.as_slice() else {
-        bail!("one file is wanted")
+        return Ok(());
     };
     let bytes = fs::read(&rt, name.as_str())?;
     if bytes.len() as u64 > MOST_BYTES {
@@ -91,7 +110,7 @@ RT
     echo 'prover: prove_run gcl_names gcl_reader anyhow' >>"$1/crates.txt"
 }
 
-# In a copy, a worker's room is the store that grows.
+# In a copy, a prover's room is the store that grows.
 let_grow() {
     local crate=$1/crates/prove_run
     cat >"$crate/src/room.rt" <<'RT'
@@ -129,7 +148,7 @@ pub fn roomy_store(alloc: Global) -> Result<VecStore, AllocError>
     }
 }
 RT
-    sed -i -e 's/TermRegion::open(alloc, EXPAND_UNITS)?/roomy_store(alloc)?/' -e 's/^use term_region::TermRegion;$//' \
+    sed -i -e 's/TermRegion::open(alloc, EXPAND_UNITS)?/roomy_store(alloc)?/' -e '/^use term_region::TermRegion;$/d' \
         -e 's/^use crate::growing::grow;$/&\nuse crate::room::roomy_store;/' -e 's/{EXPAND_UNITS, MOST_FUEL, OwnedPoly, Row}/{MOST_FUEL, OwnedPoly, Row}/' \
         "$crate/src/proving.rt"
     sed -i 's/Rattle.term_region.specs.Holding/Rattle.term_store.specs.Holding/' "$crate/proofs/proving/prove_all/Invariants.antt"
@@ -150,28 +169,23 @@ compare() {
     printf '| %s | %d | %d | %d | %.3f |\n' "$1" "$moved" "$region" "$growing" "$(echo "$region / $growing" | bc -l)"
 }
 
-# The least time of nine runs, and the most memory of one.
+# The least time of a hundred runs, and the middle of the most memory of five.
 cost() {
-    local least=99999999 start end kilobytes
-    for _ in 1 2 3 4 5 6 7 8 9; do
+    local least=99999999 start end
+    for _ in {1..100}; do
         start=${EPOCHREALTIME/./}
         "$1" "$2" >/dev/null
         end=${EPOCHREALTIME/./}
         least=$((end - start < least ? end - start : least))
     done
-    kilobytes=$(python3 -c 'import resource, subprocess, sys
-subprocess.run(sys.argv[1:], stdout=subprocess.DEVNULL)
-print(resource.getrusage(resource.RUSAGE_CHILDREN).ru_maxrss)' "$1" "$2")
-    echo "$least microseconds, $kilobytes kB"
+    echo "$least microseconds, $(for _ in 1 2 3 4 5; do /usr/bin/time -f %M "$1" "$2" 2>&1 >/dev/null; done | sort -n | sed -n 3p) kB"
 }
 
 proofs() {
     for store in region growing; do
-        mkdir "$work/$store.copy"
-        (cd "$top" && tar cf - --exclude=out crates crates.txt HANDLES) | tar xf - -C "$work/$store.copy"
         make_program "$work/$store.copy"
         [ "$store" = region ] || let_grow "$work/$store.copy"
-        (cd "$work/$store.copy/crates/prover" && rt run -- "$top/examples/thales.gcl" >"$work/built" 2>&1) || { cat "$work/built" >&2; exit 1; }
+        (cd "$work/$store.copy" && rt ci >"$work/built" 2>&1) || { tail -n 20 "$work/built" >&2; exit 1; }
         cp "$work/$store.copy/crates/prover/out/prover" "$work/$store"
         rm -rf "$work/$store.copy"
     done
@@ -180,11 +194,14 @@ proofs() {
         make_chain "$n" >"$work/chain"
         compare "chain of $n midpoints" "$work/chain"
     done
-    for name in thales midlines varignon centroid orthocentre circumscribed simson tangents napoleon euler; do
+    for name in thales midlines varignon centroid orthocentre circumscribed simson tangents napoleon euler nine_points desargues \
+        butterfly; do
         compare "$name" "$top/examples/$name.gcl"
     done
-    echo "thales over the region: $(cost "$work/region" "$top/examples/thales.gcl")"
-    echo "thales over the growing store: $(cost "$work/growing" "$top/examples/thales.gcl")"
+    for name in thales euler; do
+        echo "$name over the region: $(cost "$work/region" "$top/examples/$name.gcl")"
+        echo "$name over the growing store: $(cost "$work/growing" "$top/examples/$name.gcl")"
+    done
 }
 
 case ${1:-} in

@@ -1,6 +1,6 @@
 # Completion of gclc for bash: first the forms, then the files and options of the form.
 
-_gclc_usage='svg FILE, latex FILE, system FILE, show FILE, prove FILE [--workers N], check LOG [FILE], trial NUMBER WORKERS, sample FILE'
+_gclc_usage='svg FILE, latex FILE, system FILE, show FILE, prove FILE [--workers N], check LOG [FILE], trial NUMBER WORKERS, sample FILE, carry LOG FILE FIGURE'
 
 # The files that end as asked, and folders.
 _gclc_files() {

@@ -35,7 +35,7 @@ figure_claims o acts s points problem (verdict.Degenerate path) mean claims = tt
 figure_claims o acts s points problem (verdict.Left path reason) mean claims = tt
 
 -- how many acts stand before the prove behind these
-before-prove : (before after : List Act) (prove : Act) → is_prove prove.deed ≡ true
+pub before-prove : (before after : List Act) (prove : Act) → is_prove prove.deed ≡ true
     → acts_before (proves_in before) (before ++ prove ∷ after) ≡ length before
 unfolding acts_before
 before-prove [] after prove e = ap (λ b. if b then (if 0 == 0 then 0 else acts_before (0 - 1) after + 1) else acts_before 0 after + 1) e
@@ -51,7 +51,7 @@ before-prove (a ∷ before) after prove e = by (is_prove a.deed) (before-prove b
   by true h = grind (arith, h)
   by false h = grind (arith, h)
 
-take-front : {X : Type 0} (a b : List X) → take (length a) (a ++ b) ≡ a
+pub take-front : {X : Type 0} (a b : List X) → take (length a) (a ++ b) ≡ a
 take-front [] b = refl
 take-front (x ∷ a) b = ap (λ l. x ∷ l) (take-front a b)
 
@@ -96,7 +96,7 @@ problems-item acts (suc n) k es earlier later e h s =
         let t : others ≡ front ++ e ∷ later = cc in ap (problem_of acts) (omega arith) ∙ next front later e more t
 
 -- as many problems as were asked for
-problems-length : (acts : List Act) (n k : ℕ) (es : List Equations) → problems_from acts k n ≡ Ok es → length es ≡ n
+pub problems-length : (acts : List Act) (n k : ℕ) (es : List Equations) → problems_from acts k n ≡ Ok es → length es ≡ n
 unfolding problems_from
 problems-length acts zero k es h = let none : [] ≡ es = ok-is h in omega (arith, ap length none)
 problems-length acts (suc n) k es h =
@@ -119,7 +119,7 @@ AllMean o =
     (acts : List Act) (s : Statement) (points : List ℕ) → length (layout_of acts).variables ≤ MOST_VARIABLES
     → Mean o acts s points (equations_of acts s points)
 
-abbrev stated_by : List Proof → List Equations
+abbrev pub stated_by : List Proof → List Equations
 stated_by proofs = map equations (problems_in proofs)
 
 -- the problem of a proof is that of the prove of its number
@@ -135,6 +135,22 @@ proof-problem acts proofs earlier later p stated parts =
     ap (problem_of acts) there
     ∙ problems-item acts (proves_in acts) 0 (stated_by proofs) (stated_by earlier) (stated_by later) (equations p.problem) stated cut
 
+-- and so it is the problem behind the acts before that prove
+pub proof-behind : (acts : List Act) (proofs : List Proof) → problems_of acts ≡ Ok (stated_by proofs)
+    → (before after : List Act) (prove : Act) (s : Statement) (points : List ℕ) → acts ≡ before ++ prove ∷ after → prove.deed ≡ deed.Prove s points
+    → (earlier later : List Proof) (p : Proof) → proofs ≡ earlier ++ p ∷ later → length earlier ≡ proves_in before
+    → problem_at before prove s points ≡ Ok (equations p.problem)
+proof-behind acts proofs stated before after prove s points is asks earlier later p parts place =
+    sym (problem-behind before after prove s points asks) ∙ ap (λ l. problem_of l (proves_in before)) (sym is) ∙ ap (problem_of acts) (sym place)
+    ∙ proof-problem acts proofs earlier later p stated parts
+
+-- each proof is assured
+pub proof-assured : {M : Type 0} (o : Operations M) (proofs : List Proof) → All (IsAssuredProof o) proofs
+    → (earlier later : List Proof) (p : Proof) → proofs ≡ earlier ++ p ∷ later → IsAssuredProof o p
+proof-assured o proofs assured earlier later p parts =
+    let all = subst (All (IsAssuredProof o)) parts assured in
+    all-at (IsAssuredProof o) earlier later p (recursion_from_All (IsAssuredProof o) (earlier ++ p ∷ later) all)
+
 -- The verdicts of a log with the problems of these acts hold of their figures.
 pub figures_hold : {M : Type 0} (o : Operations M) → AllMean o → (acts : List Act) (proofs : List Proof)
     → problems_of acts ≡ Ok (stated_by proofs) → All (IsAssuredProof o) proofs → FiguresHold o acts proofs
@@ -146,20 +162,12 @@ figures_hold o means acts proofs stated assured = record { many = many; each = e
       let c = problems-length acts (proves_in acts) 0 (stated_by proofs) stated in
       omega (arith, a, b, c)
 
-  one : (earlier later : List Proof) (p : Proof) → proofs ≡ earlier ++ p ∷ later → IsAssuredProof o p
-  one earlier later p parts =
-      let all = subst (All (IsAssuredProof o)) parts assured in
-      all-at (IsAssuredProof o) earlier later p (recursion_from_All (IsAssuredProof o) (earlier ++ p ∷ later) all)
-
   each : (before after : List Act) (prove : Act) (s : Statement) (points : List ℕ)
       → acts ≡ before ++ prove ∷ after → prove.deed ≡ deed.Prove s points
       → (earlier later : List Proof) (p : Proof) → proofs ≡ earlier ++ p ∷ later → length earlier ≡ proves_in before
       → FigureClaims o before s points p.verdict
   each before after prove s points is asks earlier later p parts place =
-      let found = proof-problem acts proofs earlier later p stated parts in
-      let behind = problem-behind before after prove s points asks in
-      let same : problem_at before prove s points ≡ Ok (equations p.problem) =
-      sym behind ∙ ap (λ l. problem_of l (proves_in before)) (sym is) ∙ ap (problem_of acts) (sym place) ∙ found in
+      let same = proof-behind acts proofs stated before after prove s points is asks earlier later p parts place in
       let given = equations-given before prove s points (equations p.problem) same in
       let mean = subst (Mean o before s points) (sym given.1) (means before s points given.0) in
-      figure_claims o before s points p.problem p.verdict mean (one earlier later p parts).claims
+      figure_claims o before s points p.problem p.verdict mean (proof-assured o proofs assured earlier later p parts).claims

@@ -147,11 +147,16 @@ log-stated bytes proofs h =
     ap (λ r. r >>= λ program. problems_of program.acts) p.1 ∙ es.1
     ∙ ap Ok (again es.0 ∙ ap (map equations) (sym (problems-back VERSION (share_of MOST_FUEL (length problems)) problems) ∙ ap problems_in (ok-is es.2)))
 
+-- The program of a file is sound.
+pub program-sound : (bytes : List ℕ) (p : Program) → program_of bytes ≡ Ok p → IsSound p
+program-sound bytes p h =
+    let f = bind-ok (file_of bytes) resolved p h in
+    let spelled = commands-in MOST_COMMANDS (lexed bytes) f.0 f.1 in
+    (resolved-sound f.0 p (spelled.1, spelled.2) f.2).0
+
 -- The log of a file is accepted and whole.
 pub log-sure : (bytes : List ℕ) (proofs : List Proof) → proofs_of bytes ≡ Ok proofs → IsSure proofs
 unfolding proofs_of
 log-sure bytes proofs h =
     let p = bind-ok (program_of bytes) _ proofs h in
-    let f = bind-ok (file_of bytes) resolved p.0 p.1 in
-    let spelled = commands-in MOST_COMMANDS (lexed bytes) f.0 f.1 in
-    program-sure p.0 proofs (resolved-sound f.0 p.0 (spelled.1, spelled.2) f.2).0 p.2
+    program-sure p.0 proofs (program-sound bytes p.0 p.1) p.2

@@ -3,6 +3,8 @@ use Rattle.std.proofs.Common.{◌≡◌, ◌≤◌, ◌⊎◌, ℕ, List, [], �
 use Rattle.std.specs.List.{AllByRecursion}
 use Rattle.std.proofs.lemmas.Bool.Decides.{nat_tests}
 use Rattle.std.proofs.lemmas.List.Elements.{recursion_from_All}
+use Rattle.std.proofs.lemmas.Option.{same_Some}
+use Rattle.std.specs.Io.KnownBytes.{append_known}
 use Rattle.poly_model.specs.Domain.{Operations}
 use Rattle.poly_model.specs.declared.limits.TheConstants.{MOST_LOG_BYTES}
 use Rattle.desk_io.specs.Files.{Files, Holds, file_of}
@@ -18,26 +20,27 @@ use Rattle.prove_run.specs.Logs.{newest}
 use Rattle.prove_run.proofs.Proved.{newest-known}
 use Rattle.prove_run.proofs.Written.{are-proofs}
 use Rattle.proof_log.specs.declared.log.Proof.{Proof}
+use Rattle.log_checker.specs.Checked.{AreOf}
 use Rattle.log_checker.specs.Answers.{Finding, Accepted, Malformed, Rejected, IsFound, IsAcceptedText}
 use Rattle.prove_run.specs.Whole.{HasCounts}
-use Rattle.command_line.specs.Answer.{Answer, read_fault, too_large, answer_from}
-use Rattle.command_line.specs.Assured.{IsAssuredLog}
-use Rattle.command_line.specs.Checking.{answer_to, IsChecked, HasProblems, IsCompared, IsComparedWith, stated_in}
-use Rattle.command_line.specs.Contract.{IsFault}
+use Rattle.command_line.specs.Answer.{Answer, read_fault, too_large, text_answer, answer_from}
+use Rattle.command_line.specs.Checking.{answer_to, IsChecked, HasProblems, IsCheckedAgainst, IsCompared, IsComparedWith, stated_in}
 use Rattle.command_line.specs.Figures.{IsAssuredOf}
-use Rattle.command_line.specs.Headline.{Headline, IsDecided, IsWritten, ProvesOf, assured_so, ProvedIsAssured}
+use Rattle.command_line.specs.Headline.{Headline, IsWritten, ProvesOf, ShowsProofs, ShowsLog, ShowsFigures, assured_lines, assured_so, ProvedIsAssured}
+use Rattle.command_line.specs.Readings.{Reading, readings_of}
+use Rattle.command_line.specs.Run.{Due, Whole, CutOff, Answers}
 use Rattle.command_line.specs.Proving.{proofs_of, log_text, proved}
-use Rattle.command_line.specs.Table.{Form, TextOf, ProveOf, CheckOf, TrialOf, OfFile, IsAnswer}
+use Rattle.command_line.specs.Table.{Form, TextOf, ProveOf, CheckOf, TrialOf, source, OfFile, OfSources, IsAnswerOver, IsAnswerOf, names_of}
 use Rattle.command_line.specs.VerdictLines.{problems_in}
 use Rattle.command_line.specs.declared.status.Status.{Status}
-use Rattle.command_line.specs.declared.status.Status.TheVariants.{Done}
+use Rattle.command_line.specs.declared.status.Status.TheVariants.{Done, WriteFault, OutOfMemory}
 use Rattle.command_line.proofs.Assured.{spelled, log_assured}
 use Rattle.command_line.proofs.Figures.{AllMean, figures_hold}
 use Rattle.command_line.proofs.FileLogs.{IsSure, log-sure, log-stated}
 
 -- ---- files that were read
 -- The file of an answer that has a log on out was read.
-record WasRead (most : ℕ) (o : Option (List ℕ)) (Next : List ℕ → Answer → Type 0) (a : Answer) : Type 0 where
+record Opened (most : ℕ) (o : Option (List ℕ)) (Next : List ℕ → Answer → Type 0) (a : Answer) : Type 0 where
   bytes : List ℕ
   held : o ≡ Some bytes
   fits : nat_lt most (length bytes) ≡ false
@@ -51,10 +54,10 @@ not_too_large : IsWritten too_large.status → ⊥
 not_too_large (inl e) = cc
 not_too_large (inr e) = cc
 
-was_read : (most : ℕ) (o : Option (List ℕ)) (Next : List ℕ → Answer → Type 0) (a : Answer) → OfFile most o Next a → IsWritten a.status → WasRead most o Next a
-was_read most None Next a e log = absurd (not_read_fault (subst (λ (b : Answer). IsWritten b.status) e log))
-was_read most (Some bytes) Next a over log = by (nat_lt most (length bytes)) refl over where
-  by : (t : Bool) → nat_lt most (length bytes) ≡ t → elim t as (λ _. Type 0) [ true ↦ a ≡ too_large | false ↦ Next bytes a ] → WasRead most (Some bytes) Next a
+opened : (most : ℕ) (o : Option (List ℕ)) (Next : List ℕ → Answer → Type 0) (a : Answer) → OfFile most o Next a → IsWritten a.status → Opened most o Next a
+opened most None Next a e log = absurd (not_read_fault (subst (λ (b : Answer). IsWritten b.status) e log))
+opened most (Some bytes) Next a over log = by (nat_lt most (length bytes)) refl over where
+  by : (t : Bool) → nat_lt most (length bytes) ≡ t → elim t as (λ _. Type 0) [ true ↦ a ≡ too_large | false ↦ Next bytes a ] → Opened most (Some bytes) Next a
   by true t e = absurd (not_too_large (subst (λ (b : Answer). IsWritten b.status) e log))
   by false t next = record { bytes = bytes; held = refl; fits = t; next = next }
 
@@ -63,59 +66,99 @@ of_bytes : (most : ℕ) (o : Option (List ℕ)) (bytes : List ℕ) (Next : List 
 of_bytes most o bytes Next a held fits next =
     subst (λ f. OfFile most f Next a) (sym held) (subst (λ t. elim t as (λ _. Type 0) [ true ↦ a ≡ too_large | false ↦ Next bytes a ]) (sym fits) next)
 
-same_bytes : (o : Option (List ℕ)) (a b : List ℕ) → o ≡ Some a → o ≡ Some b → a ≡ b
-same_bytes o a b e f = let h : Some a ≡ Some b = sym e ∙ f in cc
-
 -- ---- what was found of a log that is accepted
-record WasAccepted (log : List ℕ) (finding : Finding) : Type 0 where
+record WasAccepted (log : List ℕ) (finding : Finding) (a : Answer) : Type 0 where
   proofs : List Proof
   text : IsAcceptedText proofs log
   is : finding ≡ Accepted proofs
+  out : a.out ≡ assured_lines proofs
 
-was_accepted : (log : List ℕ) (finding : Finding) (a : Answer) → IsFound finding log → a ≡ answer_to finding → a.status ≡ Done → WasAccepted log finding
-was_accepted log (Accepted proofs) a found e done = record { proofs = proofs; text = found; is = refl }
+was_accepted : (log : List ℕ) (finding : Finding) (a : Answer) → IsFound finding log → a ≡ answer_to finding → a.status ≡ Done → WasAccepted log finding a
+was_accepted log (Accepted proofs) a found e done = record { proofs = proofs; text = found; is = refl; out = ap (λ (b : Answer). b.out) e }
 was_accepted log (Malformed n) a found e done = let h = sym (ap (λ (b : Answer). b.status) e) ∙ done in cc
 was_accepted log (Rejected n w) a found e done = let h = sym (ap (λ (b : Answer). b.status) e) ∙ done in cc
 
-record WasCompared (read : Result (List Equations) Refusal) (log : List ℕ) : Type 0 where
+record WasCompared (read : Result (List Equations) Refusal) (log out : List ℕ) : Type 0 where
   proofs : List Proof
   text : IsAcceptedText proofs log
   stated : read ≡ Ok (map equations (problems_in proofs))
+  told : out ≡ assured_lines proofs
 
-of_stated : (stated : List Equations) (log : List ℕ) (a : Answer) → IsCompared stated log a → a.status ≡ Done → WasCompared (Ok stated) log
+of_stated : (stated : List Equations) (log : List ℕ) (a : Answer) → IsCompared stated log a → a.status ≡ Done → WasCompared (Ok stated) log a.out
 of_stated stated log a c done = elim c.answer [
   | inl p ↦ let w = was_accepted log c.finding a c.found p.1 done in
-      record { proofs = w.proofs; text = w.text; stated = ap Ok (sym (subst (HasProblems stated) w.is p.0)) }
+      record { proofs = w.proofs; text = w.text; stated = ap Ok (sym (subst (HasProblems stated) w.is p.0)); told = w.out }
   | inr p ↦ let h = sym (ap (λ (b : Answer). b.status) p.1) ∙ done in cc
 ]
 
 was_compared : (read : Result (List Equations) Refusal) (log file : List ℕ) (a : Answer) → IsComparedWith read log file a → a.status ≡ Done
-    → WasCompared read log
+    → WasCompared read log a.out
 was_compared (Ok stated) log file a c done = of_stated stated log a c done
 was_compared (Err refusal) log file a e done = let h = sym (ap (λ (b : Answer). b.status) e) ∙ done in cc
 
--- ---- the desk's files
-told : (held : Option Files) (name bytes : List ℕ) → Holds held name bytes → (files : Files) × (held ≡ Some files)
-told None name bytes h = cc
-told (Some files) name bytes h = (files, refl)
+-- ---- what was read
+-- The readings over which an answer is given that is no read fault: where the desk tells its files, they are theirs.
+record Chosen (held : Option Files) (names : List (List ℕ)) (Of : List Reading → Answer → Type 0) (a : Answer) : Type 0 where
+  readings : List Reading
+  over : Of readings a
+  own : (files : Files) → held ≡ Some files → readings ≡ readings_of files names
 
-file_told : (held : Option Files) (files : Files) (name bytes : List ℕ) → held ≡ Some files → Holds held name bytes → file_of files name ≡ Some bytes
-file_told held files name bytes e h = let k = subst (λ f. Holds f name bytes) e h in cc
+chosen : (held : Option Files) (rose : Type 0) (names : List (List ℕ)) (Of : List Reading → Answer → Type 0) (a : Answer) → Due held rose names Of a
+    → IsWritten a.status → Chosen held names Of a
+chosen None rose names Of a due written = record { readings = due.readings; over = due.read; own = λ files e. cc }
+chosen (Some files) rose names Of a due written = by (due.told files refl) where
+  by : Of (readings_of files names) a ⊎ (rose × (a ≡ read_fault)) → Chosen (Some files) names Of a
+  by (inl over) = record { readings = readings_of files names; over = over; own = λ others e. ap (λ (f : Files). readings_of f names) (same_Some files others e) }
+  by (inr fault) = absurd (not_read_fault (subst (λ (b : Answer). IsWritten b.status) fault.1 written))
 
-not_fault : (status : Status) → IsWritten status → IsFault status → ⊥
-not_fault status (inl e) (inl f) = let h = sym e ∙ f in cc
-not_fault status (inl e) (inr (inl f)) = let h = sym e ∙ f in cc
-not_fault status (inl e) (inr (inr f)) = let h = sym e ∙ f in cc
-not_fault status (inr e) (inl f) = let h = sym e ∙ f in cc
-not_fault status (inr e) (inr (inl f)) = let h = sym e ∙ f in cc
-not_fault status (inr e) (inr (inr f)) = let h = sym e ∙ f in cc
+-- The answer of a run whose text was written whole.
+record Written (held : Option Files) (names : List (List ℕ)) (Of : List Reading → Answer → Type 0) (out_old out_new : Option (List ℕ)) (status : Status) : Type 0 where
+  answer : Answer
+  is : answer.status ≡ status
+  out : out_new ≡ append_known out_old answer.out
+  read : Chosen held names Of answer
 
--- the answer over the files that the desk tells
-answered : (form : Option Form) (files : Files) (status : Status)
-    → ((a : Answer) × IsAnswer form files a × (status ≡ a.status)) ⊎ IsFault status → IsWritten status
-    → (a : Answer) × IsAnswer form files a × (a.status ≡ status)
-answered form files status (inl a) written = (a.0, a.1, sym a.2)
-answered form files status (inr fault) written = absurd (not_fault status written fault)
+not_written_fault : IsWritten WriteFault → ⊥
+not_written_fault (inl e) = cc
+not_written_fault (inr e) = cc
+
+not_written_memory : IsWritten OutOfMemory → ⊥
+not_written_memory (inl e) = cc
+not_written_memory (inr e) = cc
+
+was_written : (held : Option Files) (rose : Type 0) (names : List (List ℕ)) (Of : List Reading → Answer → Type 0)
+    (out_old out_new notes_old notes_new : Option (List ℕ)) (status : Status)
+    → Answers held rose names Of out_old out_new notes_old notes_new status → IsWritten status → Written held names Of out_old out_new status
+was_written held rose names Of out_old out_new notes_old notes_new status (inl g) written = by g.ends where
+  by : Whole g.answer out_old out_new notes_old notes_new status ⊎ CutOff g.answer out_old out_new notes_old notes_new status
+      → Written held names Of out_old out_new status
+  by (inl w) = record {
+    answer = g.answer;
+    is = sym w.status_is;
+    out = w.out;
+    read = chosen held rose names Of g.answer g.due (subst IsWritten w.status_is written);
+  }
+  by (inr x) = absurd (not_written_fault (subst IsWritten x.status_is written))
+was_written held rose names Of out_old out_new notes_old notes_new status (inr n) written = absurd (not_written_memory (subst IsWritten n.status_is written))
+
+held_of : (held : Option Files) (name file : List ℕ) → Holds held name file → (files : Files) × (held ≡ Some files) × (file_of files name ≡ Some file)
+held_of None name file h = cc
+held_of (Some files) name file h = (files, refl, same_Some _ _ h)
+
+abbrev OwnReadings : Option Files → List (List ℕ) → List Reading → Type 0
+OwnReadings held names readings = (files : Files) → held ≡ Some files → readings ≡ readings_of files names
+
+-- the bytes that were read first are the file's
+first_own : (held : Option Files) (name : List ℕ) (names : List (List ℕ)) (reading : Reading) (readings : List Reading) (bytes : List ℕ)
+    → OwnReadings held (name ∷ names) (reading ∷ readings) → reading ≡ Some bytes → AreOf held name bytes
+first_own held name names reading readings bytes own is = λ file holds.
+    let f = held_of held name file holds in
+    let same : reading ≡ file_of f.0 name = let e = own f.0 f.1 in cc in
+    same_Some bytes file (sym is ∙ same ∙ f.2)
+
+others_own : (held : Option Files) (name : List ℕ) (names : List (List ℕ)) (reading : Reading) (readings : List Reading)
+    → OwnReadings held (name ∷ names) (reading ∷ readings) → OwnReadings held names readings
+others_own held name names reading readings own = λ files e. let same = own files e in cc
 
 -- ---- what is proved
 pub accepted_text : (proofs : List Proof) → IsSure proofs → IsAcceptedText proofs (log_text proofs)
@@ -143,37 +186,53 @@ was_proved bytes (Err refusal) a of e (inr s) = let h = sym (ap (λ (b : Answer)
 not_longer : (a b : ℕ) → a ≤ b → nat_lt b a ≡ false
 not_longer a b le = grind (arith, nat_tests)
 
+-- what `check` answers to the log of a file
+checked_alone : (proofs : List Proof) → IsSure proofs → (log : List ℕ)
+    → IsAnswerOf (Some (CheckOf log None)) (Some (log_text proofs) ∷ []) (text_answer (assured_lines proofs))
+checked_alone proofs sure log =
+    let text = log_text proofs in
+    let a = text_answer (assured_lines proofs) in
+    let alone : IsChecked text a = record { finding = Accepted proofs; found = accepted_text proofs sure; answer = refl } in
+    of_bytes MOST_LOG_BYTES (Some text) text (λ bytes b. IsChecked bytes b) a refl (not_longer (length text) MOST_LOG_BYTES sure.whole.bytes) alone
+
+checked_against : (source : List ℕ) (proofs : List Proof) → nat_lt MOST_BYTES (length source) ≡ false → proofs_of source ≡ Ok proofs → IsSure proofs
+    → (log file : List ℕ)
+    → IsAnswerOf (Some (CheckOf log (Some file))) (Some (log_text proofs) ∷ Some source ∷ []) (text_answer (assured_lines proofs))
+checked_against source proofs fits made sure log file =
+    let text = log_text proofs in
+    let a = text_answer (assured_lines proofs) in
+    let against : IsComparedWith (Ok (map equations (problems_in proofs))) text source a =
+    record { finding = Accepted proofs; found = accepted_text proofs sure; answer = inl (refl, refl) } in
+    let compared : IsCheckedAgainst text source a = subst (λ s. IsComparedWith s text source a) (sym (log-stated source proofs made)) against in
+    of_bytes MOST_LOG_BYTES (Some text) text (λ bytes b. OfFile MOST_BYTES (Some source) (λ other c. IsCheckedAgainst bytes other c) b) a refl
+    (not_longer (length text) MOST_LOG_BYTES sure.whole.bytes)
+    (of_bytes MOST_BYTES (Some source) source (λ other c. IsCheckedAgainst text other c) a refl fits compared)
+
 pub proved_assured : ProvedIsAssured
 proved_assured files file log a h has there =
-    let r = was_read MOST_BYTES (file_of files file) _ a h has in
+    let r = opened MOST_BYTES (file_of files file) _ a h has in
     let p = was_proved r.bytes (proofs_of r.bytes) a refl r.next has in
     let proofs = p.proofs in
     let sure = log-sure r.bytes proofs p.made in
-    let out : log_text proofs ≡ a.out = ap (λ (b : Answer). b.out) (sym p.is) in
-    let found = subst (IsAcceptedText proofs) out (accepted_text proofs sure) in
-    let fits = subst (λ b. nat_lt MOST_LOG_BYTES (length b) ≡ false) out (not_longer (length (log_text proofs)) MOST_LOG_BYTES sure.whole.bytes) in
-    let answer : assured_so a.notes ≡ answer_to (Accepted proofs) = ap (λ (b : Answer). assured_so b.notes) p.is in
-    let alone : IsChecked a.out (assured_so a.notes) = record { finding = Accepted proofs; found = found; answer = answer } in
-    let told = assured_so a.notes in
-    let against : IsComparedWith (Ok (map equations (problems_in proofs))) a.out r.bytes told =
-    record { finding = Accepted proofs; found = found; answer = inl (refl, answer) } in
-    let compared = subst (λ s. IsComparedWith s a.out r.bytes told) (sym (log-stated r.bytes proofs p.made)) against in (
-      of_bytes MOST_LOG_BYTES (file_of files log) a.out _ _ there fits alone,
-      of_bytes MOST_LOG_BYTES (file_of files log) a.out _ _ there fits
-          (of_bytes MOST_BYTES (file_of files file) r.bytes _ _ r.held r.fits compared),
+    let told : text_answer (assured_lines proofs) ≡ assured_so a.notes = ap (λ (b : Answer). assured_so b.notes) (sym p.is) in
+    let held : Some (log_text proofs) ≡ file_of files log = ap (λ (b : Answer). Some b.out) (sym p.is) ∙ sym there in
+    let alone = checked_alone proofs sure log in
+    let against = checked_against r.bytes proofs r.fits p.made sure log file in (
+      subst (λ (o : Reading). IsAnswerOf (Some (CheckOf log None)) (o ∷ []) (assured_so a.notes)) held
+          (subst (IsAnswerOf (Some (CheckOf log None)) (Some (log_text proofs) ∷ [])) told alone),
+      subst (λ (o : Reading). IsAnswerOf (Some (CheckOf log (Some file))) (o ∷ file_of files file ∷ []) (assured_so a.notes)) held
+          (subst (λ (o : Reading). IsAnswerOf (Some (CheckOf log (Some file))) (Some (log_text proofs) ∷ o ∷ []) (assured_so a.notes)) (sym r.held)
+          (subst (IsAnswerOf (Some (CheckOf log (Some file))) (Some (log_text proofs) ∷ Some r.bytes ∷ [])) told against)),
     )
 
 -- ---- the headline
 module _ {M : Type 0} (o : Operations M) (cover : TreesCover o) (hold : VerdictsHold o) (mean : AllMean o) where
-  of_log : (log : List ℕ) (a : Answer) → IsChecked log a → a.status ≡ Done → IsAssuredLog o log
-  of_log log a c done = let w = was_accepted log c.finding a c.found c.answer done in log_assured o cover hold log w.proofs w.text
-
-  of_file : (log file : List ℕ) → WasCompared (stated_in file) log → IsAssuredOf o log file
+  of_file : (log file : List ℕ) (proofs : List Proof) → IsAcceptedText proofs log → stated_in file ≡ Ok (map equations (problems_in proofs)) → IsAssuredOf o log file
   unfolding stated_in
-  of_file log file w =
-      let p = bind-ok (program_of file) (λ program. problems_of program.acts) (map equations (problems_in w.proofs)) w.stated in
-      let assured = log_assured o cover hold log w.proofs w.text in
-      let same : w.proofs ≡ assured.proofs = assured.only w.proofs (spelled log w.proofs w.text) in
+  of_file log file proofs text stated =
+      let p = bind-ok (program_of file) (λ program. problems_of program.acts) (map equations (problems_in proofs)) stated in
+      let assured = log_assured o cover hold log proofs text in
+      let same : proofs ≡ assured.proofs = assured.only proofs (spelled log proofs text) in
       record {
         program = p.0;
         read = p.1;
@@ -181,47 +240,94 @@ module _ {M : Type 0} (o : Operations M) (cover : TreesCover o) (hold : Verdicts
         figures = figures_hold o mean p.0.acts assured.proofs (p.2 ∙ ap (λ ps. Ok (map equations (problems_in ps))) same) assured.assured;
       }
 
-  alone_done : (files : Files) (log bytes : List ℕ) (a : Answer) → IsAnswer (Some (CheckOf log None)) files a → a.status ≡ Done → file_of files log ≡ Some bytes
-      → IsAssuredLog o bytes
-  alone_done files log bytes a h done held =
-      let r = was_read MOST_LOG_BYTES (file_of files log) _ a h (inl done) in
-      subst (IsAssuredLog o) (same_bytes _ r.bytes bytes r.held held) (of_log r.bytes a r.next done)
+  proves_of : (source : List ℕ) (proofs : List Proof) → nat_lt MOST_BYTES (length source) ≡ false → proofs_of source ≡ Ok proofs → ProvesOf o source
+  proves_of source proofs fits made =
+      let sure = log-sure source proofs made in
+      record {
+        proofs = proofs;
+        made = made;
+        assured = of_file (log_text proofs) source proofs (accepted_text proofs sure) (log-stated source proofs made);
+        checks = checked_alone proofs sure;
+        compares = checked_against source proofs fits made sure;
+      }
 
-  against_done : (files : Files) (log file bytes source : List ℕ) (a : Answer) → IsAnswer (Some (CheckOf log (Some file))) files a → a.status ≡ Done
-      → file_of files log ≡ Some bytes → file_of files file ≡ Some source → IsAssuredOf o bytes source
-  against_done files log file bytes source a h done held kept =
-      let r = was_read MOST_LOG_BYTES (file_of files log) _ a h (inl done) in
-      let q = was_read MOST_BYTES (file_of files file) _ a r.next (inl done) in
-      let of_both = of_file r.bytes q.bytes (was_compared (stated_in q.bytes) r.bytes q.bytes a q.next done) in
-      subst (λ b. IsAssuredOf o b source) (same_bytes _ r.bytes bytes r.held held)
-      (subst (IsAssuredOf o r.bytes) (same_bytes _ q.bytes source q.held kept) of_both)
+  -- ---- by the form
+  module _ (held : Option Files) (out_old out_new : Option (List ℕ)) (status : Status) where
+    proofs_shown : (file : List ℕ) → IsWritten status → Written held (file ∷ []) (IsAnswerOf (Some (ProveOf file))) out_old out_new status
+        → ShowsProofs o held file out_old out_new
+    unfolding proves_of was_proved
+    proofs_shown file written w = by w.read.readings w.read.over w.read.own where
+      has : IsWritten w.answer.status
+      has = subst IsWritten (sym w.is) written
 
-  file_proved : (files : Files) (file source : List ℕ) (a : Answer) → IsAnswer (Some (ProveOf file)) files a → IsWritten a.status
-      → file_of files file ≡ Some source → ProvesOf o source
-  file_proved files file source a h written held =
-      let r = was_read MOST_BYTES (file_of files file) _ a h written in
-      let p = was_proved r.bytes (proofs_of r.bytes) a refl r.next written in
-      let shown = of_file (log_text p.proofs) r.bytes record {
-        proofs = p.proofs;
-        text = accepted_text p.proofs (log-sure r.bytes p.proofs p.made);
-        stated = log-stated r.bytes p.proofs p.made;
-      } in
-      subst (ProvesOf o) (same_bytes _ r.bytes source r.held held) (p.proofs, p.made, shown)
+      by : (readings : List Reading) → IsAnswerOf (Some (ProveOf file)) readings w.answer → OwnReadings held (file ∷ []) readings → ShowsProofs o held file out_old out_new
+      by [] over own = absurd over
+      by (reading ∷ readings) over own =
+          let r = opened MOST_BYTES reading _ w.answer over has in
+          let p = was_proved r.bytes (proofs_of r.bytes) w.answer refl r.next has in
+          record {
+            source = r.bytes;
+            own = first_own held file [] reading readings r.bytes own r.held;
+            shown = proves_of r.bytes p.proofs r.fits p.made;
+            text = w.out ∙ ap (λ (a : Answer). append_known out_old a.out) p.is;
+          }
 
-  pub headline : (form : Option Form) (held : Option Files) (status : Status) → IsDecided form held status → Headline o form held status
-  headline None held status decided = tt
-  headline (Some (TextOf command file)) held status decided = tt
-  headline (Some (TrialOf number)) held status decided = tt
-  headline (Some (ProveOf file)) held status decided = λ written source there.
-      let f = told held file source there in
-      let a = answered (Some (ProveOf file)) f.0 status (decided f.0 f.1) written in
-      file_proved f.0 file source a.0 a.1 (subst IsWritten (sym a.2) written) (file_told held f.0 file source f.1 there)
-  headline (Some (CheckOf log None)) held status decided = λ done bytes there.
-      let f = told held log bytes there in
-      let a = answered (Some (CheckOf log None)) f.0 status (decided f.0 f.1) (inl done) in
-      alone_done f.0 log bytes a.0 a.1 (a.2 ∙ done) (file_told held f.0 log bytes f.1 there)
-  headline (Some (CheckOf log (Some file))) held status decided = λ done bytes source there kept.
-      let f = told held log bytes there in
-      let a = answered (Some (CheckOf log (Some file))) f.0 status (decided f.0 f.1) (inl done) in
-      against_done f.0 log file bytes source a.0 a.1 (a.2 ∙ done) (file_told held f.0 log bytes f.1 there)
-      (file_told held f.0 file source f.1 kept)
+    log_shown : (log : List ℕ) → status ≡ Done → Written held (log ∷ []) (IsAnswerOf (Some (CheckOf log None))) out_old out_new status → ShowsLog o held log out_old out_new
+    log_shown log done w = by w.read.readings w.read.over w.read.own where
+      by : (readings : List Reading) → IsAnswerOf (Some (CheckOf log None)) readings w.answer → OwnReadings held (log ∷ []) readings → ShowsLog o held log out_old out_new
+      by [] over own = absurd over
+      by (reading ∷ readings) over own =
+          let r = opened MOST_LOG_BYTES reading _ w.answer over (inl (w.is ∙ done)) in
+          let a = was_accepted r.bytes r.next.finding w.answer r.next.found r.next.answer (w.is ∙ done) in
+          let shown = log_assured o cover hold r.bytes a.proofs a.text in
+          record {
+            bytes = r.bytes;
+            own = first_own held log [] reading readings r.bytes own r.held;
+            shown = shown;
+            text = w.out ∙ ap (append_known out_old) (a.out ∙ ap assured_lines (shown.only a.proofs (spelled r.bytes a.proofs a.text)));
+          }
+
+    figures_shown : (log file : List ℕ) → status ≡ Done → Written held (log ∷ file ∷ []) (IsAnswerOf (Some (CheckOf log (Some file)))) out_old out_new status
+        → ShowsFigures o held log file out_old out_new
+    figures_shown log file done w = by w.read.readings w.read.over w.read.own where
+      has : IsWritten w.answer.status
+      has = inl (w.is ∙ done)
+
+      behind : (bytes : List ℕ) → AreOf held log bytes → (readings : List Reading)
+          → OfSources (source file MOST_BYTES ∷ []) (λ others b. IsAnswerOver (CheckOf log (Some file)) (bytes ∷ others) b) readings w.answer
+          → OwnReadings held (file ∷ []) readings → ShowsFigures o held log file out_old out_new
+      behind bytes log_own [] over own = absurd over
+      behind bytes log_own (reading ∷ readings) over own =
+          let q = opened MOST_BYTES reading _ w.answer over has in
+          let c = was_compared (stated_in q.bytes) bytes q.bytes w.answer q.next (w.is ∙ done) in
+          let shown = of_file bytes q.bytes c.proofs c.text c.stated in
+          record {
+            bytes = bytes;
+            source = q.bytes;
+            own = log_own;
+            file_own = first_own held file [] reading readings q.bytes own q.held;
+            shown = shown;
+            text = w.out ∙ ap (append_known out_old) (c.told ∙ ap assured_lines (shown.assured.only c.proofs (spelled bytes c.proofs c.text)));
+          }
+
+      by : (readings : List Reading) → IsAnswerOf (Some (CheckOf log (Some file))) readings w.answer → OwnReadings held (log ∷ file ∷ []) readings
+          → ShowsFigures o held log file out_old out_new
+      by [] over own = absurd over
+      by (reading ∷ readings) over own =
+          let r = opened MOST_LOG_BYTES reading _ w.answer over has in
+          behind r.bytes (first_own held log (file ∷ []) reading readings r.bytes own r.held) readings r.next (others_own held log (file ∷ []) reading readings own)
+
+  pub headline : (form : Option Form) (held : Option Files) (rose : Type 0) (out_old out_new notes_old notes_new : Option (List ℕ)) (status : Status)
+      → Answers held rose (names_of form) (IsAnswerOf form) out_old out_new notes_old notes_new status → Headline o form held out_old out_new status
+  headline None held rose out_old out_new notes_old notes_new status answered = tt
+  headline (Some (TextOf command file)) held rose out_old out_new notes_old notes_new status answered = tt
+  headline (Some (TrialOf number)) held rose out_old out_new notes_old notes_new status answered = tt
+  headline (Some (ProveOf file)) held rose out_old out_new notes_old notes_new status answered = λ written.
+      proofs_shown held out_old out_new status file written
+      (was_written held rose (file ∷ []) (IsAnswerOf (Some (ProveOf file))) out_old out_new notes_old notes_new status answered written)
+  headline (Some (CheckOf log None)) held rose out_old out_new notes_old notes_new status answered = λ done.
+      log_shown held out_old out_new status log done
+      (was_written held rose (log ∷ []) (IsAnswerOf (Some (CheckOf log None))) out_old out_new notes_old notes_new status answered (inl done))
+  headline (Some (CheckOf log (Some file))) held rose out_old out_new notes_old notes_new status answered = λ done.
+      figures_shown held out_old out_new status log file done
+      (was_written held rose (log ∷ file ∷ []) (IsAnswerOf (Some (CheckOf log (Some file)))) out_old out_new notes_old notes_new status answered (inl done))

@@ -12,5 +12,8 @@ pub mod Words
 mod FileLogs
 mod Assured
 mod Figures
+pub mod CarryingFacts
+mod CarriedFigures
 mod Headline
 pub mod Trials
+pub mod Counts

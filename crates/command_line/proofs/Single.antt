@@ -4,10 +4,10 @@ use Rattle.gcl_reader.specs.declared.refusal.Refusal.{Refusal}
 use Rattle.algebraize.specs.Equations.{Equations}
 use Rattle.log_checker.specs.Answers.{Finding}
 use Rattle.log_checker.proofs.Exact.{one_finding}
-use Rattle.desk_io.specs.Files.{Files, file_of}
 use Rattle.command_line.specs.Answer.{Answer, too_large}
 use Rattle.command_line.specs.Checking.{answer_to, IsChecked, IsAnswerAgainst, IsCompared, IsComparedWith, stated_in}
-use Rattle.command_line.specs.Table.{Form, TextOf, ProveOf, CheckOf, TrialOf, Source, OfFile, OfSources, IsAnswerOver, IsAnswer, sources_of}
+use Rattle.command_line.specs.Table.{Form, TextOf, ProveOf, CheckOf, TrialOf, Source, OfFile, OfSources, IsAnswerOver, IsAnswerOf, sources_of}
+use Rattle.command_line.specs.Readings.{Reading}
 
 -- There is at most one answer.
 abbrev AtMostOne : (Answer → Type 0) → Type 0
@@ -41,12 +41,13 @@ over_file : (most : ℕ) (o : Option (List ℕ)) (Next : List ℕ → Answer →
 over_file most None Next one a b p q = p ∙ sym q
 over_file most (Some bytes) Next one a b p q = by_size bytes Next (one bytes) (nat_lt most (length bytes)) a b p q
 
-over_sources : (sources : List Source) (Over : List (List ℕ) → Answer → Type 0) → ((files : List (List ℕ)) → AtMostOne (Over files)) → (files : Files)
-    → AtMostOne (OfSources sources Over files)
-over_sources [] Over one files a b p q = one [] a b p q
-over_sources (s ∷ sources) Over one files a b p q =
-    over_file s.most (file_of files s.name) (λ bytes c. OfSources sources (λ others d. Over (bytes ∷ others) d) files c)
-    (λ bytes. over_sources sources (λ others d. Over (bytes ∷ others) d) (λ others. one (bytes ∷ others)) files) a b p q
+over_sources : (sources : List Source) (Over : List (List ℕ) → Answer → Type 0) → ((files : List (List ℕ)) → AtMostOne (Over files)) → (readings : List Reading)
+    → AtMostOne (OfSources sources Over readings)
+over_sources [] Over one readings a b p q = one [] a b p q
+over_sources (s ∷ sources) Over one [] a b p q = absurd p
+over_sources (s ∷ sources) Over one (reading ∷ readings) a b p q =
+    over_file s.most reading (λ bytes c. OfSources sources (λ others d. Over (bytes ∷ others) d) readings c)
+    (λ bytes. over_sources sources (λ others d. Over (bytes ∷ others) d) (λ others. one (bytes ∷ others)) readings) a b p q
 
 over_form : (form : Form) (files : List (List ℕ)) → AtMostOne (IsAnswerOver form files)
 over_form (TextOf command file) files a b p q = p ∙ sym q
@@ -55,6 +56,6 @@ over_form (TrialOf number) files a b p q = p ∙ sym q
 over_form (CheckOf log None) files a b p q = checked_one (get_or files 0 []) a b p q
 over_form (CheckOf log (Some file)) files a b p q = compared_with_one (stated_in (get_or files 1 [])) (get_or files 0 []) (get_or files 1 []) a b p q
 
-pub one_answer : (form : Option Form) (files : Files) (a b : Answer) → IsAnswer form files a → IsAnswer form files b → a ≡ b
-one_answer None files a b p q = p ∙ sym q
-one_answer (Some form) files a b p q = over_sources (sources_of form) (IsAnswerOver form) (over_form form) files a b p q
+pub one_answer : (form : Option Form) (readings : List Reading) (a b : Answer) → IsAnswerOf form readings a → IsAnswerOf form readings b → a ≡ b
+one_answer None readings a b p q = p ∙ sym q
+one_answer (Some form) readings a b p q = over_sources (sources_of form) (IsAnswerOver form) (over_form form) readings a b p q

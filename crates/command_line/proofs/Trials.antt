@@ -1,5 +1,5 @@
 -- Trials: the number that a word tells, and that the file of a number has a log, which is accepted.
-use Rattle.std.proofs.Common.{◌≡◌, ◌<◌, ◌≤◌, ◌⊎◌, inl, inr, ◌+◌, ℕ, List, ◌∷◌, Option, None, Some, Err, Bool, true, false, ◌&&◌, nat_lt, refl, sym, ◌∙◌, ap, arith}
+use Rattle.std.proofs.Common.{◌≡◌, ◌<◌, ◌≤◌, ◌⊎◌, inl, inr, ◌+◌, ℕ, List, [], ◌∷◌, Option, None, Some, Err, Bool, true, false, ◌&&◌, nat_lt, refl, sym, ◌∙◌, ap, arith}
 use Rattle.std.specs.Prelude.{if◌then◌else◌, decimal}
 use Rattle.std.specs.Str.{bytes_eq}
 use Rattle.std.specs.Str.Parse.{digits_value}
@@ -24,12 +24,12 @@ use Rattle.command_line.specs.Answer.{answer_from, text_answer}
 use Rattle.command_line.specs.Contract.{Views, IsRun, IsQuiet, lent}
 use Rattle.command_line.specs.Proving.{log_text}
 use Rattle.command_line.specs.Run.{Ends}
-use Rattle.command_line.specs.Table.{TrialOf, IsAnswer, trial_number}
+use Rattle.command_line.specs.Table.{TrialOf, IsAnswerOf, trial_number}
 use Rattle.command_line.specs.Trials.{is_other, is_proved, is_under, one_if, trial_of, verdicts_of}
 use Rattle.command_line.specs.declared.numbers.TheConstants.{TRIALS}
 use Rattle.command_line.specs.declared.status.Status.{Status}
 use Rattle.command_line.specs.declared.status.Status.TheVariants.{Done, Usage, ReadFault, WriteFault, OutOfMemory}
-use Rattle.command_line.proofs.Dues.{given, due_over}
+use Rattle.command_line.proofs.Dues.{given, due_at_once}
 use Rattle.command_line.proofs.FileLogs.{IsSure}
 use Rattle.command_line.proofs.Headline.{accepted_text}
 use Rattle.command_line.proofs.Runs.{run_of}
@@ -121,8 +121,8 @@ trial-runs v desk out new notes n status ends one write_fault untouched later =
     let rose = Rose (v.desk_faults desk) (v.desk_faults desk) in
     let answer = answer_from text_answer (trial_text n) (trial_of n) in
     run_of v (lent desk out notes) (lent desk new notes) (TrialOf n) status
-    (given held rose (IsAnswer (Some (TrialOf n))) answer _ _ _ _ status
-    (due_over held rose (IsAnswer (Some (TrialOf n))) answer (silent_from text_answer (trial_text n) (trial_of n) silent_text)
-    (proper_from text_answer (trial_text n) (trial_of n) proper_text) (λ files e. refl)) ends)
+    (given held rose [] (IsAnswerOf (Some (TrialOf n))) answer _ _ _ _ status
+    (due_at_once held rose (IsAnswerOf (Some (TrialOf n))) answer (silent_from text_answer (trial_text n) (trial_of n) silent_text)
+    (proper_from text_answer (trial_text n) (trial_of n) proper_text) refl) ends)
     (no-usage status one) (λ e. absurd (no-read_fault status one e)) (λ put. inl (write_fault put)) (quiet-out out new status one untouched) (λ e. refl) refl
     (omega arith, later, omega arith)

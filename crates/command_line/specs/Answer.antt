@@ -15,7 +15,7 @@ abbrev pub only_notes : Status → List ℕ → Answer
 only_notes status line = record { status = status; out = []; notes = line }
 
 abbrev pub usage_line : List ℕ
-usage_line = codes "usage: gclc svg FILE, latex FILE, system FILE, show FILE, prove FILE [--workers N], check LOG [FILE], trial NUMBER WORKERS, sample FILE\n"
+usage_line = codes "usage: gclc svg FILE, latex FILE, system FILE, show FILE, prove FILE [--workers N], check LOG [FILE], trial NUMBER WORKERS, sample FILE, carry LOG FILE FIGURE\n"
 
 abbrev pub usage : Answer
 usage = only_notes Usage usage_line

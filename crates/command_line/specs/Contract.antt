@@ -4,7 +4,7 @@ use Rattle.std.specs.Prelude.{◌≡◌, ℕ, ◌≤◌, ◌⊎◌, List, [], �
 use Rattle.desk_io.specs.Causes.{Rose}
 use Rattle.desk_io.specs.Files.{Files, Lacks}
 use Rattle.command_line.specs.Answer.{Answer, read_fault}
-use Rattle.command_line.specs.Table.{Form, IsAnswer, names_of}
+use Rattle.command_line.specs.Table.{Form, IsAnswer, IsAnswerOf, names_of}
 use Rattle.command_line.specs.Run.{Answers, Whole, CutOff, Nothing}
 use Rattle.command_line.specs.declared.status.Status.{Status}
 use Rattle.command_line.specs.declared.status.Status.TheVariants.{Done, Unproved, Rejected, Usage, Refused, ReadFault, WriteFault, OutOfMemory}
@@ -62,9 +62,9 @@ LacksOne held (name ∷ names) = Lacks held name ⊎ LacksOne held names
 
 -- What a call promises that was asked for a form of the command line, or whose words are none.
 pub record IsRun {K S N : Type 0} (v : Views K S N) (old new : Lent K S N) (form : Option Form) (status : Status) : Type 0 where
-  -- The bytes and the status are those of the answer that is due; or a put failed, and fronts of them stand; or memory ran
-  -- out before the first put.
-  pub answered : Answers (v.held old.desk) (DeskRose v old new) (IsAnswer form)
+  -- The bytes and the status are those of the answer that is due, which is an answer over what was read of each file, once;
+  -- or a put failed, and fronts of them stand; or memory ran out before the first put.
+  pub answered : Answers (v.held old.desk) (DeskRose v old new) (names_of form) (IsAnswerOf form)
       (v.written old.out) (v.written new.out) (v.said old.notes) (v.said new.notes) status
   -- Where the desk tells its files, the status is that of the answer over them, or a fault.
   pub decided : (files : Files) → v.held old.desk ≡ Some files
@@ -111,6 +111,11 @@ pub record IsTrialRun {K S N : Type 0} (old new : Lent K S N) (status : Status) 
   pub of_trial : (status ≡ Done) ⊎ (status ≡ WriteFault) ⊎ (status ≡ OutOfMemory)
   pub idle : new.desk ≡ old.desk
   pub unsaid : new.notes ≡ old.notes
+
+-- What a call promises besides that carries a figure: it proves nothing, and says nothing where its text is done.
+pub record IsCarryRun {K S N : Type 0} (old new : Lent K S N) (status : Status) : Type 0 where
+  pub of_carry : (status ≡ Usage → ⊥) × (status ≡ Unproved → ⊥)
+  pub unsaid : status ≡ Done → new.notes ≡ old.notes
 
 -- What a call promises besides that checks a log: it proves nothing, and refuses no file where none is named.
 abbrev pub IsCheckRun : (file : Option (List ℕ)) → Status → Type 0

@@ -1,5 +1,7 @@
 -- What the checker found of a log, as the code has it, and the answer to that.
-use Rattle.std.specs.Prelude.{◌≡◌, ◌↔◌, ◌⊎◌, ℕ, List, [], ◌∷◌, length, map, Bool, IsTrue, Result, Ok, Err}
+use Rattle.std.specs.Prelude.{◌≡◌, ◌↔◌, ◌⊎◌, ℕ, List, [], ◌∷◌, length, get_or, map, Bool, IsTrue, Option, Result, Ok, Err}
+use Rattle.poly_model.specs.declared.limits.TheConstants.{MOST_LOG_BYTES}
+use Rattle.desk_io.specs.Files.{Files}
 use Rattle.gcl_reader.specs.Grammar.{Fails}
 use Rattle.gcl_reader.specs.declared.refusal.GclFault.{GclFault}
 use Rattle.gcl_reader.specs.declared.refusal.Refusal.{Refusal}
@@ -11,7 +13,8 @@ use Rattle.proof_log.specs.Own.{VerdictIsOver}
 use Rattle.log_checker.specs.Answers.{Malformed, Rejected, IsFound}
 use Rattle.log_checker.specs.Checked.{Judged}
 use Rattle.command_line.specs.Answer.{Answer, refused, text_answer}
-use Rattle.command_line.specs.Checking.{assured_text, malformed_at, misfit_at, other_problems}
+use Rattle.command_line.specs.Checking.{stated_in, assured_text, malformed_at, misfit_at, other_problems}
+use Rattle.command_line.specs.Readings.{WasRead}
 use Rattle.command_line.specs.declared.checking.Found.{Found}
 use Rattle.command_line.specs.declared.checking.Found.TheVariants as found
 
@@ -42,6 +45,17 @@ Compares f (Err e) read = Fails e read
 abbrev pub IsAnswerFor : Result (List Equations) Refusal → (file : List ℕ) → Found → Answer → Type 0
 IsAnswerFor (Ok stated) file f a = (Has stated f × (a ≡ answer_of f)) ⊎ ((Has stated f → ⊥) × (a ≡ other_problems))
 IsAnswerFor (Err refusal) file f a = a ≡ refused file refusal
+
+-- Of the files that are read behind the log, there is one.
+abbrev pub IsAnswerBehind : Found → List (List ℕ) → Answer → Type 0
+IsAnswerBehind f files a = IsAnswerFor (stated_in (get_or files 0 [])) (get_or files 0 []) f a
+
+-- ---- what was read
+-- It is what is found of the bytes of a log, which were read once.
+pub record WasFound (held : Option Files) (name : List ℕ) (found : Found) : Type 0 where
+  pub log : List ℕ
+  pub read : WasRead held name MOST_LOG_BYTES log
+  pub finds : Finds found log
 
 -- ---- what is written of it
 -- Each verdict has only the variables of its problem.

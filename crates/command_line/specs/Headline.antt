@@ -1,44 +1,75 @@
 -- What a run that is done has shown, in a domain, of the files that it read; and that what `prove` writes, `check` assures.
-use Rattle.std.specs.Prelude.{◌≡◌, ◌⊎◌, ℕ, List, ◌++◌, Option, Some, None, Ok, codes}
+use Rattle.std.specs.Prelude.{◌≡◌, ◌⊎◌, ℕ, List, [], ◌∷◌, ◌++◌, Option, Some, None, Ok, codes}
+use Rattle.std.specs.Io.KnownBytes.{append_known}
 use Rattle.poly_model.specs.Domain.{Operations}
-use Rattle.desk_io.specs.Files.{Files, Holds, file_of}
+use Rattle.desk_io.specs.Files.{Files, file_of}
+use Rattle.log_checker.specs.Checked.{AreOf}
 use Rattle.proof_log.specs.declared.log.Proof.{Proof}
 use Rattle.command_line.specs.Answer.{Answer, text_answer}
 use Rattle.command_line.specs.Assured.{IsAssuredLog}
-use Rattle.command_line.specs.Contract.{IsFault}
+use Rattle.command_line.specs.Checking.{assured_text}
 use Rattle.command_line.specs.Figures.{IsAssuredOf}
 use Rattle.command_line.specs.Proving.{proofs_of, log_text}
-use Rattle.command_line.specs.Table.{Form, TextOf, ProveOf, CheckOf, TrialOf, IsAnswer}
+use Rattle.command_line.specs.Table.{Form, TextOf, ProveOf, CheckOf, TrialOf, IsAnswer, IsAnswerOf}
+use Rattle.command_line.specs.VerdictLines.{problems_in, verdicts_in}
 use Rattle.command_line.specs.declared.status.Status.{Status}
 use Rattle.command_line.specs.declared.status.Status.TheVariants.{Done, Unproved}
 
--- The file has a log, which is assured, and whose verdicts hold of the file's figures.
-abbrev pub ProvesOf : {M : Type 0} → Operations M → List ℕ → Type 0
-ProvesOf o source = (proofs : List Proof) × (proofs_of source ≡ Ok proofs) × IsAssuredOf o (log_text proofs) source
+-- The verdicts of the proofs, and that they are assured.
+abbrev pub assured_lines : List Proof → List ℕ
+assured_lines proofs = assured_text (problems_in proofs) (verdicts_in proofs)
+
+-- The file has a log, which is assured, and whose verdicts hold of the file's figures. `check` assures it and tells its
+-- verdicts, by itself and against the file.
+pub record ProvesOf {M : Type 0} (o : Operations M) (source : List ℕ) : Type 0 where
+  pub proofs : List Proof
+  pub made : proofs_of source ≡ Ok proofs
+  pub assured : IsAssuredOf o (log_text proofs) source
+  pub checks : (log : List ℕ) → IsAnswerOf (Some (CheckOf log None)) (Some (log_text proofs) ∷ []) (text_answer (assured_lines proofs))
+  pub compares : (log file : List ℕ)
+      → IsAnswerOf (Some (CheckOf log (Some file))) (Some (log_text proofs) ∷ Some source ∷ []) (text_answer (assured_lines proofs))
+
+-- ---- what is shown, of every desk
+-- What was read of the file has a log, which stands on out. Where the desk tells its files, it is the file that was read.
+pub record ShowsProofs {M : Type 0} (o : Operations M) (held : Option Files) (file : List ℕ) (out_old out_new : Option (List ℕ)) : Type 0 where
+  pub source : List ℕ
+  pub own : AreOf held file source
+  pub shown : ProvesOf o source
+  pub text : out_new ≡ append_known out_old (log_text shown.proofs)
+
+-- What was read of the log is assured, and its verdicts stand on out.
+pub record ShowsLog {M : Type 0} (o : Operations M) (held : Option Files) (log : List ℕ) (out_old out_new : Option (List ℕ)) : Type 0 where
+  pub bytes : List ℕ
+  pub own : AreOf held log bytes
+  pub shown : IsAssuredLog o bytes
+  pub text : out_new ≡ append_known out_old (assured_lines shown.proofs)
+
+-- So it is, and its verdicts hold of the figures of the file that was read behind it.
+pub record ShowsFigures {M : Type 0} (o : Operations M) (held : Option Files) (log file : List ℕ) (out_old out_new : Option (List ℕ)) : Type 0 where
+  pub bytes : List ℕ
+  pub source : List ℕ
+  pub own : AreOf held log bytes
+  pub file_own : AreOf held file source
+  pub shown : IsAssuredOf o bytes source
+  pub text : out_new ≡ append_known out_old (assured_lines shown.assured.proofs)
 
 -- The text was written whole, though some statement of it may not be proved.
 abbrev pub IsWritten : Status → Type 0
 IsWritten status = (status ≡ Done) ⊎ (status ≡ Unproved)
 
--- Where a log was written of a file, it is assured, and its verdicts hold of the file's figures. Where the check of a log is
--- done, the log that the desk holds under its name is assured; and where it is done against a file, the verdicts hold of
--- that file's figures.
-abbrev pub Headline : {M : Type 0} → Operations M → Option Form → Option Files → Status → Type 0
-Headline o None held status = Unit {0}
-Headline o (Some (TextOf command file)) held status = Unit {0}
-Headline o (Some (ProveOf file)) held status =
-    IsWritten status → (source : List ℕ) → Holds held file source → ProvesOf o source
-Headline o (Some (CheckOf log None)) held status =
-    status ≡ Done → (bytes : List ℕ) → Holds held log bytes → IsAssuredLog o bytes
-Headline o (Some (CheckOf log (Some file))) held status =
-    status ≡ Done → (bytes source : List ℕ) → Holds held log bytes → Holds held file source → IsAssuredOf o bytes source
-Headline o (Some (TrialOf number)) held status = Unit {0}
+-- Where a log was written of a file, it is that of the bytes that were read, once; it is assured, its verdicts hold of the
+-- file's figures, and `check` assures it. Where the check of a log is done, the bytes that were read, once, are an assured
+-- log, and out has its verdicts; and where it is done against a file, the verdicts hold of that file's figures. Where the
+-- desk tells its files, these are the bytes that it holds.
+abbrev pub Headline : {M : Type 0} → Operations M → Option Form → Option Files → (out_old out_new : Option (List ℕ)) → Status → Type 0
+Headline o None held out_old out_new status = Unit {0}
+Headline o (Some (TextOf command file)) held out_old out_new status = Unit {0}
+Headline o (Some (ProveOf file)) held out_old out_new status = IsWritten status → ShowsProofs o held file out_old out_new
+Headline o (Some (CheckOf log None)) held out_old out_new status = status ≡ Done → ShowsLog o held log out_old out_new
+Headline o (Some (CheckOf log (Some file))) held out_old out_new status = status ≡ Done → ShowsFigures o held log file out_old out_new
+Headline o (Some (TrialOf number)) held out_old out_new status = Unit {0}
 
--- Where the desk tells its files, the status is that of the answer over them, or a fault.
-abbrev pub IsDecided : Option Form → Option Files → Status → Type 0
-IsDecided form held status =
-    (files : Files) → held ≡ Some files → ((a : Answer) × IsAnswer form files a × (status ≡ a.status)) ⊎ IsFault status
-
+-- ---- over the files of a desk
 -- The answer that tells these verdicts, and that they are assured.
 abbrev pub assured_so : List ℕ → Answer
 assured_so verdicts = text_answer (verdicts ++ codes "assured\n")

@@ -5,6 +5,7 @@ pub mod Proving
 pub mod Checking
 pub mod Found
 pub mod Trials
+pub mod Readings
 pub mod Table
 pub mod Command
 pub mod Pipeline
@@ -17,4 +18,6 @@ pub mod ExitCodes
 pub mod Drawn
 pub mod Assured
 pub mod Figures
+pub mod Carrying
+pub mod CarryStages
 pub mod Headline

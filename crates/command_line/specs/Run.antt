@@ -4,6 +4,7 @@ use Rattle.std.specs.Io.KnownBytes.{append_known}
 use Rattle.desk_io.specs.Files.{Files}
 use Rattle.desk_io.specs.Bytes.{GrewByFront}
 use Rattle.command_line.specs.Answer.{Answer, read_fault}
+use Rattle.command_line.specs.Readings.{Reading, readings_of}
 use Rattle.command_line.specs.declared.status.Status.{Status}
 use Rattle.command_line.specs.declared.status.Status.TheVariants.{Done, Unproved, WriteFault, OutOfMemory}
 
@@ -37,26 +38,28 @@ Ends answer out_old out_new notes_old notes_new status =
     ⊎ CutOff answer out_old out_new notes_old notes_new status
     ⊎ Nothing out_old out_new notes_old notes_new status
 
--- The answer that is due. Where the desk tells its files it is theirs, or, where its faults rose, it may be the read
--- fault. Of every desk it is an answer that has bytes on out only where it is done, and whose status is not that of a put
--- that failed.
-pub record Due (held : Option Files) (rose : Type 0) (Of : Files → Answer → Type 0) (answer : Answer) : Type 0 where
+-- The answer that is due. Of every desk it is the answer of some readings, one of each name. Where the desk tells its files
+-- it is theirs, or, where its faults rose, it may be the read fault. It has bytes on out only where it is done, and its
+-- status is not that of a put that failed.
+pub record Due (held : Option Files) (rose : Type 0) (names : List (List ℕ)) (Of : List Reading → Answer → Type 0) (answer : Answer) : Type 0 where
   pub silent : IsSilent answer
   pub proper : answer.status ≡ WriteFault → ⊥
-  pub told : (files : Files) → held ≡ Some files → Of files answer ⊎ (rose × (answer ≡ read_fault))
+  pub readings : List Reading
+  pub read : Of readings answer
+  pub told : (files : Files) → held ≡ Some files → Of (readings_of files names) answer ⊎ (rose × (answer ≡ read_fault))
 
 -- An answer that is due, and what is left of it on the sinks.
-pub record Given (held : Option Files) (rose : Type 0) (Of : Files → Answer → Type 0)
+pub record Given (held : Option Files) (rose : Type 0) (names : List (List ℕ)) (Of : List Reading → Answer → Type 0)
     (out_old out_new notes_old notes_new : Option (List ℕ)) (status : Status) : Type 0 where
   pub answer : Answer
-  pub due : Due held rose Of answer
+  pub due : Due held rose names Of answer
   pub ends : Whole answer out_old out_new notes_old notes_new status ⊎ CutOff answer out_old out_new notes_old notes_new status
 
 -- What a call answers: an answer that is due, or nothing, where memory ran out.
-abbrev pub Answers : Option Files → Type 0 → (Files → Answer → Type 0)
+abbrev pub Answers : Option Files → Type 0 → List (List ℕ) → (List Reading → Answer → Type 0)
     → (out_old out_new notes_old notes_new : Option (List ℕ)) → Status → Type 0
-Answers held rose Of out_old out_new notes_old notes_new status =
-    Given held rose Of out_old out_new notes_old notes_new status ⊎ Nothing out_old out_new notes_old notes_new status
+Answers held rose names Of out_old out_new notes_old notes_new status =
+    Given held rose names Of out_old out_new notes_old notes_new status ⊎ Nothing out_old out_new notes_old notes_new status
 
 -- One of these answers, and what is left of it; or nothing, where memory ran out.
 abbrev pub GivesOne : (Answer → Type 0) → (out_old out_new notes_old notes_new : Option (List ℕ)) → Status → Type 0

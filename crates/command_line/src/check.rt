@@ -5,7 +5,7 @@ ghost use Rattle.desk_io.specs.Causes.{Rose};
 ghost use Rattle.command_line.specs.Contract.{IsRun, IsCheckRun, IsQuiet, LacksOne, lent, views};
 ghost use Rattle.command_line.specs.Headline.{Headline};
 ghost use Rattle.command_line.specs.Run.{Answers};
-ghost use Rattle.command_line.specs.Table.{IsAnswer, CheckOf, names_of};
+ghost use Rattle.command_line.specs.Table.{IsAnswerOf, CheckOf, names_of};
 
 use crate::checking::{fetch_log, put_found};
 use crate::comparing::compare;
@@ -27,7 +27,8 @@ fn check_answered<D: Domain, K: Desk, S: Sink, N: Sink>(
     notes: &mut N,
 ) -> Status
     ensures answered { Answers (K.held desk.old) (Rose (K.faults desk.old) (K.faults desk.new))
-        (IsAnswer (Some (CheckOf log.now (option_copied file.entry))))
+        (names_of (Some (CheckOf log.now (option_copied file.entry))))
+        (IsAnswerOf (Some (CheckOf log.now (option_copied file.entry))))
         (S.written out.old) (S.written out.new) (N.written notes.old) (N.written notes.new) result }
     ensures read_fault { result ≡ Status.ReadFault → Rose (K.faults desk.old) (K.faults desk.new)
         ⊎ LacksOne (K.held desk.old)
@@ -69,7 +70,7 @@ pub fn check_run<D: Domain, K: Desk, S: Sink, N: Sink>(
         (Some (CheckOf log.now (option_copied file.entry))) result }
     ensures checked { IsCheckRun (option_copied file.entry) result }
     ensures headline { Headline D.operations (Some (CheckOf log.now (option_copied file.entry)))
-        (K.held desk.old) result }
+        (K.held desk.old) (S.written out.old) (S.written out.new) result }
 {
     a_yes_is_assured(domain);
     check_answered::<D, K, S, N>(alloc, domain, log, file, desk, out, notes)

@@ -1,13 +1,14 @@
 // What is found of a log, and the answer to it.
-ghost use Rattle.std.specs.Prelude.{◌≡◌, ◌≤◌, ◌<◌, ◌⊎◌, List, ℕ, [], length, IfOk, IfErr, OnOk, IsErrOf, Option};
+ghost use Rattle.std.specs.Prelude.{◌≡◌, ◌≤◌, ◌⊎◌, List, ℕ, [], ◌∷◌, IfOk, IfErr, OnOk, IsErrOf, Option};
 ghost use Rattle.desk_io.specs.Bytes.{Puts, Writes};
 ghost use Rattle.desk_io.specs.Causes.{HasCause, Rose};
-ghost use Rattle.desk_io.specs.Files.{Holds, Lacks, file_of};
+ghost use Rattle.desk_io.specs.Files.{Lacks};
 ghost use Rattle.poly_model.specs.declared.limits.TheConstants.{MOST_LOG_BYTES};
 ghost use Rattle.command_line.specs.Answer.{only_notes, text_answer};
 ghost use Rattle.command_line.specs.Checking.{rejected_line, assured_text};
 ghost use Rattle.command_line.specs.Contract.{IsQuiet};
-ghost use Rattle.command_line.specs.Found.{Finds, HoldsOwn, AreOver, answer_of};
+ghost use Rattle.command_line.specs.Found.{WasFound, HoldsOwn, AreOver, answer_of};
+ghost use Rattle.command_line.specs.Readings.{first_of};
 ghost use Rattle.command_line.specs.Run.{Answers, Ends};
 ghost use Rattle.command_line.specs.Statuses.{IsReadingFault, IsCheckingStatus};
 ghost use Rattle.command_line.specs.Table.{OfFileAlone};
@@ -35,7 +36,7 @@ pub enum Found {
     Rejected(u32, LineWord),
 }
 
-/// Reads a log to its end and checks it, or says why it is not read: at an `Err` the run is over, whatever was to follow.
+/// Reads a log once, to its end, and checks it, or says why it is not read: at an `Err` the run is over, whatever was to follow.
 pub fn fetch_log<D: Domain, K: Desk, N: Sink>(
     alloc: Global,
     domain: &D,
@@ -43,17 +44,12 @@ pub fn fetch_log<D: Domain, K: Desk, N: Sink>(
     desk: &mut K,
     notes: &mut N,
 ) -> Result<Found, Status>
-    ensures found { (log : List ℕ) → Holds (K.held desk.old) name.now log
-        → IfOk result (λ found. Finds found log) }
-    ensures fits { (log : List ℕ) → Holds (K.held desk.old) name.now log
-        → MOST_LOG_BYTES < length log
-        → OnOk result ⊥ }
+    ensures found { IfOk result (WasFound (K.held desk.old) name.now) }
     ensures own { IfOk result HoldsOwn }
-    ensures absent { Lacks (K.held desk.old) name.now → OnOk result ⊥ }
     ensures untouched { OnOk result (notes.new ≡ notes.old) }
     ensures over { IfErr result (λ status. (out : Option (List ℕ))
-        → Answers (K.held desk.old) (Rose (K.faults desk.old) (K.faults desk.new))
-        (λ files a. OfFileAlone MOST_LOG_BYTES (file_of files name.now) a)
+        → Answers (K.held desk.old) (Rose (K.faults desk.old) (K.faults desk.new)) (name.now ∷ [])
+        (λ readings a. OfFileAlone MOST_LOG_BYTES (first_of readings) a)
         out out (N.written notes.old) (N.written notes.new) status) }
     ensures fault { IfErr result IsReadingFault }
     ensures unsaid { IsErrOf result Status.OutOfMemory → notes.new ≡ notes.old }
@@ -75,8 +71,8 @@ pub fn fetch_log<D: Domain, K: Desk, N: Sink>(
     }
 }
 
-// Says at which line the log is at fault.
-fn say_rejected<N: Sink>(alloc: Global, line: u32, word: &[u8], notes: &mut N) -> Status
+/// Says at which line the log is at fault.
+pub fn say_rejected<N: Sink>(alloc: Global, line: u32, word: &[u8], notes: &mut N) -> Status
     ensures ends { (out : Option (List ℕ))
         → Ends (only_notes Status.Rejected (rejected_line line word.now))
         out out (N.written notes.old) (N.written notes.new) result }

@@ -1,16 +1,16 @@
 // What is found of a log whose problems are to be those of a file, and the answer to it.
-ghost use Rattle.std.specs.Prelude.{◌≡◌, ◌≤◌, ◌⊎◌, length};
+ghost use Rattle.std.specs.Prelude.{◌≡◌, ◌≤◌, ◌⊎◌, [], ◌∷◌, length};
 ghost use Rattle.desk_io.specs.Causes.{Rose};
-ghost use Rattle.desk_io.specs.Files.{Lacks, file_of};
+ghost use Rattle.desk_io.specs.Files.{Lacks};
 ghost use Rattle.gcl_names.specs.Sound.{IsSound};
 ghost use Rattle.gcl_reader.specs.declared.limits.TheConstants.{MOST_BYTES};
 ghost use Rattle.algebraize.specs.Problem.{problems_of};
 ghost use Rattle.command_line.specs.Checking.{stated_in};
 ghost use Rattle.command_line.specs.Contract.{IsQuiet};
-ghost use Rattle.command_line.specs.Found.{HoldsOwn, Compares, IsAnswerFor};
+ghost use Rattle.command_line.specs.Found.{HoldsOwn, Compares, IsAnswerBehind, IsAnswerFor};
 ghost use Rattle.command_line.specs.Run.{Answers, GivesOne};
 ghost use Rattle.command_line.specs.Statuses.{IsReadingFault, IsComparingStatus};
-ghost use Rattle.command_line.specs.Table.{OfFile};
+ghost use Rattle.command_line.specs.Table.{OfSources, source};
 
 use crate::checking::{Found, put_found};
 use crate::stage::{fetch, refuse, say};
@@ -22,8 +22,8 @@ use gcl_reader::{GclFault, MOST_BYTES, read};
 use log_checker::check_against;
 use std::alloc::Global;
 
-// Whether the log has the problems of a program, if it is accepted.
-fn has_problems(alloc: Global, found: &Found, program: &Program) -> Result<bool, GclFault>
+/// Whether the log has the problems of a program, if it is accepted.
+pub fn has_problems(alloc: Global, found: &Found, program: &Program) -> Result<bool, GclFault>
     requires { IsSound program.now }
     ensures { Compares found.now result (problems_of program.now.acts) }
 {
@@ -88,8 +88,7 @@ pub fn compare<K: Desk, S: Sink, N: Sink>(
 ) -> Status
     requires { HoldsOwn found.now }
     ensures answered { Answers (K.held desk.old) (Rose (K.faults desk.old) (K.faults desk.new))
-        (λ files a. OfFile MOST_BYTES (file_of files name.now)
-        (λ bytes b. IsAnswerFor (stated_in bytes) bytes found.now b) a)
+        (name.now ∷ []) (OfSources (source name.now MOST_BYTES ∷ []) (IsAnswerBehind found.now))
         (S.written out.old) (S.written out.new) (N.written notes.old) (N.written notes.new) result }
     ensures read_fault { result ≡ Status.ReadFault
         → Rose (K.faults desk.old) (K.faults desk.new) ⊎ Lacks (K.held desk.old) name.now }

@@ -1,8 +1,8 @@
 // The words of the command line.
-ghost use Rattle.std.specs.Prelude.{◌≡◌, map};
+ghost use Rattle.std.specs.Prelude.{◌≡◌, None, map};
 ghost use Rattle.std.specs.String.{string_bytes};
-ghost use Rattle.command_line.specs.Table.{TextOf, one_file, log_and_file, form_of, prove_words, proved_by, trial_number, trial_words, tried_by, worker_count};
-ghost use Rattle.command_line.specs.Forms.{command_of, form_seen};
+ghost use Rattle.command_line.specs.Table.{TextOf, one_file, log_and_file, form_of, prove_words, prove_workers, proved_by, trial_number, trial_words, trial_workers, tried_by, worker_count, workers_by, workers_of};
+ghost use Rattle.command_line.specs.Forms.{command_of, form_seen, workers_seen};
 
 use crate::numbers::trial_number;
 use crate::workers::{Workers, worker_count};
@@ -36,7 +36,9 @@ pub enum Invocation<'a> {
 
 // A form that makes a text, with the words behind its first.
 fn read_text(form: TextForm, names: &[String]) -> Invocation<'_>
-    ensures { form_seen result ≡ one_file (TextOf (command_of form)) (map string_bytes names.now) }
+    ensures form { form_seen result
+        ≡ one_file (TextOf (command_of form)) (map string_bytes names.now) }
+    ensures workers { workers_seen result ≡ None }
 {
     match names {
         [name] => Invocation::Text(form, name.as_str()),
@@ -46,7 +48,8 @@ fn read_text(form: TextForm, names: &[String]) -> Invocation<'_>
 
 // `prove` of a file, by as many workers as a word tells.
 fn read_together<'a>(name: &'a str, count: &str) -> Invocation<'a>
-    ensures { form_seen result ≡ proved_by name.now (worker_count count.now) }
+    ensures form { form_seen result ≡ proved_by name.now (worker_count count.now) }
+    ensures workers { workers_seen result ≡ worker_count count.now }
 {
     match worker_count(count) {
         Some(count) => Invocation::ProveTogether(name, Workers { count }),
@@ -56,7 +59,8 @@ fn read_together<'a>(name: &'a str, count: &str) -> Invocation<'a>
 
 // `prove`, with the words behind it.
 fn read_prove(words: &[String]) -> Invocation<'_>
-    ensures { form_seen result ≡ prove_words (map string_bytes words.now) }
+    ensures form { form_seen result ≡ prove_words (map string_bytes words.now) }
+    ensures workers { workers_seen result ≡ prove_workers (map string_bytes words.now) }
 {
     match words {
         [name] => Invocation::Prove(name.as_str()),
@@ -69,7 +73,8 @@ fn read_prove(words: &[String]) -> Invocation<'_>
 
 // `check`, with the words behind it.
 fn read_check(names: &[String]) -> Invocation<'_>
-    ensures { form_seen result ≡ log_and_file (map string_bytes names.now) }
+    ensures form { form_seen result ≡ log_and_file (map string_bytes names.now) }
+    ensures workers { workers_seen result ≡ None }
 {
     match names {
         [log] => Invocation::Check(log.as_str(), None),
@@ -80,7 +85,10 @@ fn read_check(names: &[String]) -> Invocation<'_>
 
 // `trial` of the number that a word tells, by as many workers as another tells.
 fn read_trial_by(number: &str, count: &str) -> Invocation<'static>
-    ensures { form_seen result ≡ tried_by (trial_number number.now) (worker_count count.now) }
+    ensures form { form_seen result
+        ≡ tried_by (trial_number number.now) (worker_count count.now) }
+    ensures workers { workers_seen result
+        ≡ workers_by (trial_number number.now) (worker_count count.now) }
 {
     let Some(number) = trial_number(number) else {
         return Invocation::Wrong;
@@ -93,7 +101,8 @@ fn read_trial_by(number: &str, count: &str) -> Invocation<'static>
 
 // `trial`, with the words behind it.
 fn read_trial(words: &[String]) -> Invocation<'_>
-    ensures { form_seen result ≡ trial_words (map string_bytes words.now) }
+    ensures form { form_seen result ≡ trial_words (map string_bytes words.now) }
+    ensures workers { workers_seen result ≡ trial_workers (map string_bytes words.now) }
 {
     match words {
         [number, count] => read_trial_by(number.as_str(), count.as_str()),
@@ -103,7 +112,8 @@ fn read_trial(words: &[String]) -> Invocation<'_>
 
 /// Takes the words after the program's name apart. A name may be any word, also one that begins with `-`.
 pub fn read_command(words: &[String]) -> Invocation<'_>
-    ensures { form_seen result ≡ form_of (map string_bytes words.now) }
+    ensures form { form_seen result ≡ form_of (map string_bytes words.now) }
+    ensures workers { workers_seen result ≡ workers_of (map string_bytes words.now) }
 {
     let [word, names @ ..] = words else {
         return Invocation::Wrong;

@@ -2,6 +2,9 @@
 #![tactic(auto)]
 
 mod asked;
+mod carried_lines;
+mod carry;
+mod carrying;
 mod check;
 mod checking;
 mod comparing;
@@ -22,6 +25,7 @@ mod trial;
 mod verdict_lines;
 mod workers;
 
+pub use carry::carry_run;
 pub use check::check_run;
 pub use laws::{a_yes_is_assured, answers_are_unique, what_is_proved_is_assured};
 pub use run::{gclc_run, latex_run, prove_one_run, sample_run, show_run, svg_run, system_run};

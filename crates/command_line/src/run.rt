@@ -3,7 +3,7 @@ ghost use Rattle.std.specs.Prelude.{◌≡◌, ◌≤◌, ◌⊎◌, List, ℕ, 
 ghost use Rattle.std.specs.String.{string_bytes};
 ghost use Rattle.desk_io.specs.Causes.{Rose};
 ghost use Rattle.desk_io.specs.Files.{Lacks};
-ghost use Rattle.command_line.specs.Table.{IsAnswer, TextOf, ProveOf, CheckOf, TrialOf, form_of};
+ghost use Rattle.command_line.specs.Table.{IsAnswerOf, TextOf, ProveOf, CheckOf, TrialOf, form_of};
 ghost use Rattle.command_line.specs.Command.{Command};
 ghost use Rattle.command_line.specs.Contract.{IsRun, IsTextRun, IsProofRun, IsCheckRun, IsTrialRun, IsQuiet, lent, views};
 ghost use Rattle.command_line.specs.Headline.{Headline};
@@ -40,7 +40,7 @@ fn file_answered<C: TextCommand, K: Desk, S: Sink, N: Sink>(
     notes: &mut N,
 ) -> Status
     ensures answered { Answers (K.held desk.old) (Rose (K.faults desk.old) (K.faults desk.new))
-        (IsAnswer (Some (TextOf C.made name.now)))
+        (name.now ∷ []) (IsAnswerOf (Some (TextOf C.made name.now)))
         (S.written out.old) (S.written out.new) (N.written notes.old) (N.written notes.new) result }
     ensures read_fault { result ≡ Status.ReadFault
         → Rose (K.faults desk.old) (K.faults desk.new) ⊎ Lacks (K.held desk.old) name.now }
@@ -174,7 +174,7 @@ fn proofs_answered<P: Prover, K: Desk, S: Sink, N: Sink>(
 ) -> Status
     requires { P.ready }
     ensures answered { Answers (K.held desk.old) (Rose (K.faults desk.old) (K.faults desk.new))
-        (IsAnswer (Some (ProveOf name.now)))
+        (name.now ∷ []) (IsAnswerOf (Some (ProveOf name.now)))
         (S.written out.old) (S.written out.new) (N.written notes.old) (N.written notes.new) result }
     ensures read_fault { result ≡ Status.ReadFault
         → Rose (K.faults desk.old) (K.faults desk.new) ⊎ Lacks (K.held desk.old) name.now }
@@ -295,7 +295,7 @@ pub fn gclc_run<R: Threads + Wait + Sync, D: Domain, K: Desk, S: Sink, N: Sink>(
     ensures trial { (number : ℕ) → form_of (map string_bytes words.now) ≡ Some (TrialOf number)
         → IsTrialRun (lent desk.old out.old notes.old) (lent desk.new out.new notes.new) result }
     ensures headline { Headline D.operations (form_of (map string_bytes words.now))
-        (K.held desk.old) result }
+        (K.held desk.old) (S.written out.old) (S.written out.new) result }
 {
     a_yes_is_assured(domain);
     words_run::<R, D, K, S, N>(rt, alloc, domain, words, desk, out, notes)

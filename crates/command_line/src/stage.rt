@@ -1,15 +1,16 @@
 // The stages that the commands share: what is said on notes, reading a file, and putting a text.
-ghost use Rattle.std.specs.Prelude.{IfOk, IfErr, OnOk, IsErrOf, vec_len, ◌≡◌, ◌≢◌, ◌≤◌, ◌⊎◌, List, ℕ, Option, Result, Ok, Err, [], length};
+ghost use Rattle.std.specs.Prelude.{IfOk, IfErr, OnOk, IsErrOf, ◌≡◌, ◌≢◌, ◌≤◌, ◌⊎◌, List, ℕ, Option, Result, Ok, Err, [], ◌∷◌, length};
 ghost use Rattle.std.specs.List.{flat_map};
 ghost use Rattle.std.specs.Io.KnownBytes.{append_known};
 ghost use Rattle.desk_io.specs.Bytes.{Puts, Writes};
 ghost use Rattle.desk_io.specs.Causes.{HasCause, Rose};
-ghost use Rattle.desk_io.specs.Files.{Holds, Lacks, file_of};
+ghost use Rattle.desk_io.specs.Files.{Lacks};
 ghost use Rattle.gcl_reader.specs.Grammar.{Gives};
 ghost use Rattle.gcl_reader.specs.declared.refusal.Refusal.{Refusal};
 ghost use Rattle.command_line.specs.Answer.{Answer, only_notes, refused, text_answer, answer_from};
 ghost use Rattle.command_line.specs.Table.{OfFileAlone};
 ghost use Rattle.command_line.specs.Command.{Command};
+ghost use Rattle.command_line.specs.Readings.{WasRead, first_of};
 ghost use Rattle.command_line.specs.Run.{Ends, Answers};
 ghost use Rattle.command_line.specs.Contract.{IsQuiet};
 ghost use Rattle.command_line.specs.Statuses.{IsReadingFault, IsWritingStatus};
@@ -105,7 +106,7 @@ pub fn refuse<N: Sink>(alloc: Global, bytes: &[u8], refusal: Refusal, notes: &mu
     }
 }
 
-/// Reads a file of at most `most` bytes whole, or says why not: at an `Err` the run is over, whatever was to follow.
+/// Reads a file of at most `most` bytes once and whole, or says why not: at an `Err` the run is over, whatever was to follow.
 pub fn fetch<K: Desk, N: Sink>(
     alloc: Global,
     name: &str,
@@ -113,14 +114,11 @@ pub fn fetch<K: Desk, N: Sink>(
     desk: &mut K,
     notes: &mut N,
 ) -> Result<Vec<u8>, Status>
-    ensures whole { (file : List ℕ) → Holds (K.held desk.old) name.now file
-        → IfOk result (λ bytes. bytes.items ≡ file) }
-    ensures fits { IfOk result (λ bytes. vec_len bytes ≤ most) }
-    ensures absent { Lacks (K.held desk.old) name.now → OnOk result ⊥ }
+    ensures read { IfOk result (λ bytes. WasRead (K.held desk.old) name.now most bytes.items) }
     ensures untouched { OnOk result (notes.new ≡ notes.old) }
     ensures over { IfErr result (λ status. (out : Option (List ℕ))
-        → Answers (K.held desk.old) (Rose (K.faults desk.old) (K.faults desk.new))
-        (λ files a. OfFileAlone most (file_of files name.now) a)
+        → Answers (K.held desk.old) (Rose (K.faults desk.old) (K.faults desk.new)) (name.now ∷ [])
+        (λ readings a. OfFileAlone most (first_of readings) a)
         out out (N.written notes.old) (N.written notes.new) status) }
     ensures fault { IfErr result IsReadingFault }
     ensures unsaid { IsErrOf result Status.OutOfMemory → notes.new ≡ notes.old }

@@ -1,4 +1,5 @@
 // A run of the program, and what is to come of it.
+use crate::sweep::is_steady;
 use command_line::{exit_code, gclc_run};
 use desk_io::{MemDesk, MemSink};
 use poly_model::Gaussian;
@@ -6,6 +7,8 @@ use std::alloc::{AllocError, Global};
 use std::process::ExitCode;
 use std::sync::Wait;
 use std::thread::Threads;
+
+const OUT_OF_MEMORY: u8 = 8;
 
 /// What of a run the lines of a table add to.
 #[derive(Clone, Copy)]
@@ -16,18 +19,43 @@ pub enum Part {
     Notes,
 }
 
-/// A run: its words, the files that the desk has, the numbers of the read, of the put to out and of the put to notes that fail,
-/// from 1, the rooms of the sinks, and the status and the bytes that are to come of it.
+/// What desk and sinks do: the numbers of the read, of the put to out and of the put to notes that fail, from 1, how many bytes
+/// a read gives at most, and the rooms of the sinks.
+#[derive(Clone, Copy)]
+pub struct Devices {
+    pub read: u64,
+    pub put: u64,
+    pub note: u64,
+    pub most: usize,
+    pub room: usize,
+    pub notes_room: usize,
+}
+
+/// A desk and two sinks in memory.
+#[derive(Drop)]
+struct Made {
+    desk: MemDesk,
+    out: MemSink,
+    notes: MemSink,
+}
+
+/// How a run has ended, and what it has put.
+#[derive(Drop)]
+pub struct Ended {
+    pub code: ExitCode,
+    pub out: Vec<u8>,
+    pub notes: Vec<u8>,
+}
+
+/// A run: its words, the files that the desk has, what desk and sinks do, and the status and the bytes that are to come of it. Where it
+/// is swept, it is run over failing devices too.
 #[derive(Drop)]
 pub struct Case {
     pub line: u32,
     pub words: Vec<String>,
     pub files: Vec<(String, Vec<u8>)>,
-    pub read: u64,
-    pub put: u64,
-    pub note: u64,
-    pub room: usize,
-    pub notes_room: usize,
+    pub devices: Devices,
+    pub swept: bool,
     pub status: u8,
     pub out: Vec<u8>,
     pub notes: Vec<u8>,
@@ -44,11 +72,15 @@ impl Case {
             line,
             words: given,
             files: Vec::new(alloc),
-            read: 0,
-            put: 0,
-            note: 2,
-            room: 1_000_000,
-            notes_room: 1_000,
+            devices: Devices {
+                read: 0,
+                put: 0,
+                note: 2,
+                most: usize::MAX,
+                room: 1_000_000,
+                notes_room: 1_000,
+            },
+            swept: false,
             status: 0,
             out: Vec::new(alloc),
             notes: Vec::new(alloc),
@@ -103,28 +135,97 @@ impl Case {
         Ok(())
     }
 
-    /// Runs the program, and tells whether it ends with the status and the bytes that are to come.
-    pub fn comes_out<R: Threads + Wait + Sync>(
-        self,
+    // The files once more, since a desk takes them.
+    fn files_again(&self, alloc: Global) -> Result<Vec<(String, Vec<u8>)>, AllocError> {
+        let mut files = Vec::new(alloc);
+        for file in self.files.as_slice() {
+            let name = String::from_str(alloc, file.0.as_str())?;
+            files.push((name, file.1.to_vec(alloc)?))?;
+        }
+        Ok(files)
+    }
+
+    // Such a desk, which has the files, and such sinks.
+    fn made(&self, alloc: Global, devices: Devices) -> Result<Made, AllocError> {
+        let files = self.files_again(alloc)?;
+        Ok(Made {
+            desk: MemDesk::cut(files, vec![in alloc; devices.read]?, devices.most.max(1)),
+            out: MemSink::new(alloc, devices.room, vec![in alloc; devices.put]?)?,
+            notes: MemSink::new(alloc, devices.notes_room, vec![in alloc; devices.note]?)?,
+        })
+    }
+
+    // Runs the program over them.
+    fn run_over<R: Threads + Wait + Sync>(
+        &self,
         rt: &R,
         alloc: Global,
-    ) -> Result<bool, AllocError> {
-        let mut desk = MemDesk::new(self.files, vec![in alloc; self.read]?);
-        let mut out = MemSink::new(alloc, self.room, vec![in alloc; self.put]?)?;
-        let mut notes = MemSink::new(alloc, self.notes_room, vec![in alloc; self.note]?)?;
-        let status = gclc_run(
+        made: &mut Made,
+    ) -> ExitCode {
+        exit_code(gclc_run(
             rt,
             alloc,
             &Gaussian,
             &self.words,
-            &mut desk,
-            &mut out,
-            &mut notes,
-        );
-        Ok(
-            exit_code(status) == ExitCode::from(self.status)
-                && out.bytes() == self.out.as_slice()
-                && notes.bytes() == self.notes.as_slice(),
-        )
+            &mut made.desk,
+            &mut made.out,
+            &mut made.notes,
+        ))
+    }
+
+    /// Runs the program over such a desk and such sinks.
+    pub fn run<R: Threads + Wait + Sync>(
+        &self,
+        rt: &R,
+        alloc: Global,
+        devices: Devices,
+    ) -> Result<Ended, AllocError> {
+        let mut made = self.made(alloc, devices)?;
+        let code = self.run_over(rt, alloc, &mut made);
+        Ok(Ended {
+            code,
+            out: made.out.bytes().to_vec(alloc)?,
+            notes: made.notes.bytes().to_vec(alloc)?,
+        })
+    }
+
+    /// Runs the program once, and tells in a word how it ended: as said, without memory and without a byte, or otherwise. Before the
+    /// run desk and sinks are made, and behind it no memory is taken.
+    pub fn told<R: Threads + Wait + Sync>(
+        &self,
+        rt: &R,
+        alloc: Global,
+    ) -> Result<&'static str, AllocError> {
+        let mut made = self.made(alloc, self.devices)?;
+        let code = self.run_over(rt, alloc, &mut made);
+        let (out, notes) = (made.out.bytes(), made.notes.bytes());
+        if code == ExitCode::from(OUT_OF_MEMORY) && out.is_empty() && notes.is_empty() {
+            return Ok("out of memory");
+        }
+        let is_as_said = code == ExitCode::from(self.status)
+            && out == self.out.as_slice()
+            && notes == self.notes.as_slice();
+        Ok(if is_as_said { "as said" } else { "otherwise" })
+    }
+
+    /// A run has ended with the status and the bytes that are to come.
+    pub fn is_as_said(&self, ended: &Ended) -> bool {
+        ended.code == ExitCode::from(self.status)
+            && ended.out.as_slice() == self.out.as_slice()
+            && ended.notes.as_slice() == self.notes.as_slice()
+    }
+
+    /// Runs the program, and tells whether it ends with the status and the bytes that are to come, and, where it is swept, as it is
+    /// to over failing devices.
+    pub fn comes_out<R: Threads + Wait + Sync>(
+        &self,
+        rt: &R,
+        alloc: Global,
+    ) -> Result<bool, AllocError> {
+        let ended = self.run(rt, alloc, self.devices)?;
+        if !self.is_as_said(&ended) {
+            return Ok(false);
+        }
+        Ok(!self.swept || is_steady(self, rt, alloc)?)
     }
 }

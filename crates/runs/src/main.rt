@@ -1,9 +1,11 @@
 //! Whole runs of the program, as tables, and rows of single calls: runs each over files and sinks in memory, and names those that
-//! come out otherwise than worked. With three words, an operation on polynomials of many terms is done so many times instead, so that
-//! its instructions can be counted.
+//! come out otherwise than worked. With two words, a table and a line, the row of that line alone is run, once, over a desk and sinks
+//! that are made before. With three words, an operation on polynomials of many terms is done so many times instead, so that its
+//! instructions can be counted.
 #![tactic(auto)]
 
 mod arithmetic;
+mod branches;
 mod case;
 mod dense;
 mod files;
@@ -11,7 +13,10 @@ mod held;
 mod hold;
 mod integers;
 mod memory;
+mod nodes;
 mod operation;
+mod reading;
+mod sweep;
 mod table;
 
 use anyhow::{Result, bail};
@@ -52,6 +57,35 @@ fn run_table<R: Files + AllocGlobal + Print + Threads + Wait + Sync>(
     Ok(good)
 }
 
+// Runs the row of a table that begins at this line, once, and tells how it ended.
+fn run_row<R: Files + AllocGlobal + Print + Threads + Wait + Sync>(
+    rt: &R,
+    name: &str,
+    first: u32,
+) -> Result<()> {
+    let text = fs::read_to_string(rt, name)?;
+    let mut table = Table::new(rt.alloc());
+    let mut number: u32 = 0;
+    for line in text.lines() {
+        number = number.saturating_add(1);
+        if number < first {
+            continue;
+        }
+        if number > first && line.starts_with("run") {
+            break;
+        }
+        match line.strip_prefix("from ") {
+            Some(name) => table.put(&fs::read(rt, name)?)?,
+            None => table.take(rt, number, line)?,
+        }
+    }
+    let Some(case) = table.last_row() else {
+        bail!("this is no row");
+    };
+    println!(rt; "{}", case.told(rt, rt.alloc())?)?;
+    Ok(())
+}
+
 // The rows of single calls.
 fn check_calls<R: Files + AllocGlobal>(rt: &R) -> Result<()> {
     let alloc = rt.alloc();
@@ -61,6 +95,12 @@ fn check_calls<R: Files + AllocGlobal>(rt: &R) -> Result<()> {
     memory::check_pens(alloc)?;
     files::check_file(rt)?;
     files::check_read_only(rt)?;
+    branches::check_all(alloc)?;
+    reading::check_refusals(alloc)?;
+    reading::check_bytes_of_a_log(alloc, &fs::read(rt, "logs/midline.log")?, 20)?;
+    reading::check_fault_stays(alloc)?;
+    nodes::check_room(alloc)?;
+    nodes::check_nodes(alloc)?;
     let mut store = VecStore::new(alloc)?;
     arithmetic::check_all(alloc, &mut store)
 }
@@ -162,9 +202,14 @@ fn main(rt: HostRuntime) -> Result<()> {
         println!(rt; "{size} terms")?;
         return Ok(());
     }
+    if let [name, line] = words.as_slice() {
+        return run_row(&rt, name.as_str(), line.parse()?);
+    }
     let runs = run_table(&rt, "runs.txt")?;
     let logs = run_table(&rt, "logs.txt")?;
     println!(rt; "{runs} runs and {logs} over logs as the tables say")?;
+    let devices = run_table(&rt, "devices.txt")?;
+    println!(rt; "{devices} runs over devices that fail in turn")?;
     check_calls(&rt)?;
     println!(rt; "all single calls are as worked")?;
     let file = fs::read(&rt, "logs/altitudes.gcl")?;

@@ -75,11 +75,13 @@ impl Table {
             "out" => self.part = Part::Out,
             "notes" => self.part = Part::Notes,
             "status" => case.status = value.parse().unwrap_or(255),
-            "read" => case.read = number,
-            "put" => case.put = number,
-            "note" => case.note = number,
-            "room" => case.room = value.parse().unwrap_or(0),
-            "saying" => case.notes_room = value.parse().unwrap_or(0),
+            "read" => case.devices.read = number,
+            "put" => case.devices.put = number,
+            "note" => case.devices.note = number,
+            "most" => case.devices.most = value.parse().unwrap_or(1),
+            "room" => case.devices.room = value.parse().unwrap_or(0),
+            "saying" => case.devices.notes_room = value.parse().unwrap_or(0),
+            "swept" => case.swept = true,
             "percents" => case.fill(self.part, number)?,
             _ => return self.counted(word, value),
         }
@@ -134,6 +136,11 @@ impl Table {
             }
         }
         Ok(())
+    }
+
+    /// The row that is being read, as far as it has come.
+    pub fn last_row(self) -> Option<Case> {
+        self.case
     }
 
     /// Runs the last row, and gives the number of the runs that came out as the table says and the lines of the others.

@@ -1,8 +1,7 @@
 use Rattle.std.proofs.Common.{Some}
 use Rattle.std.specs.Option.{option_copied}
-use Rattle.command_line.specs.Table.{CheckOf, IsAnswer}
+use Rattle.command_line.specs.Table.{CheckOf}
 use Rattle.command_line.specs.Contract.{lent, views}
-use Rattle.command_line.proofs.Decided.{decided}
 use Rattle.command_line.proofs.Runs.{run_of}
 use Rattle.command_line.proofs.check.check_run.Goals as goal
 
@@ -18,5 +17,4 @@ returns-clause-run g c =
 pub returns-clause-headline : goal.returns-clause-headline
 returns-clause-headline g c =
     let form = Some (CheckOf c.args.log.now (option_copied c.args.file)) in
-    let held = g.K.Desk.held c.args.desk.now in
-    c.a_yes_is_assured.ensures form held c.check_answered.result (decided held _ (IsAnswer form) _ _ _ _ c.check_answered.result c.check_answered.ensures.answered)
+    c.a_yes_is_assured.ensures form (g.K.Desk.held c.args.desk.now) _ _ _ _ _ _ c.check_answered.result c.check_answered.ensures.answered

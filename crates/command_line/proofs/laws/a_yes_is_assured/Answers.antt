@@ -1,5 +1,8 @@
+use Rattle.desk_io.specs.Causes.{Rose}
 use Rattle.command_line.proofs.Headline.{headline}
 use Rattle.command_line.proofs.laws.a_yes_is_assured.Goals as goal
 
 pub returns : goal.returns
-returns g c = headline g.D.Domain.operations c.trees_cover.ensures c.verdicts_hold.ensures c.equations_mean_their_figure.ensures
+returns g c = λ form held before now out_old out_new notes_old notes_new status answered.
+    headline g.D.Domain.operations c.trees_cover.ensures c.verdicts_hold.ensures c.equations_mean_their_figure.ensures
+    form held (Rose before now) out_old out_new notes_old notes_new status answered

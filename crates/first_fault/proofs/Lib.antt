@@ -1,0 +1,8 @@
+mod Places
+mod Standing
+mod Keeping
+mod Ending
+mod Working
+mod Spelling
+mod Fronts
+mod Texts
