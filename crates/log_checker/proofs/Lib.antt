@@ -4,6 +4,7 @@ mod Terms
 mod Nodes
 mod Trying
 mod Fitness
+mod Divided
 pub mod Inside
 pub mod Fits
 mod Running

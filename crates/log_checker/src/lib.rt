@@ -24,6 +24,7 @@ mod rows;
 mod rules;
 mod tally;
 mod triangular;
+mod variables;
 mod within;
 
 pub use against::check_against;

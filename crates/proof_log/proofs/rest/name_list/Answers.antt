@@ -2,7 +2,7 @@ use Rattle.std.proofs.Common.{sym, ◌∙◌, subst}
 use Rattle.proof_log.proofs.Items.{Going, none_read}
 use Rattle.proof_log.proofs.Plain.{none_left, some_left}
 use Rattle.proof_log.proofs.Rows.{names, no_blank_more, no_name, one_name, names_read, names_only}
-use Rattle.proof_log.proofs.tail.name_list.Goals as goal
+use Rattle.proof_log.proofs.rest.name_list.Goals as goal
 
 pub loop-rest-init : goal.loop-rest-init
 loop-rest-init c = subst (Going names tt tt c.args.text.now c.args.text.now) (sym c.new-names.ensures.items) (none_read names tt c.args.text.now)

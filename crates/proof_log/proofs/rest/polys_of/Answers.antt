@@ -2,7 +2,7 @@ use Rattle.std.proofs.Common.{sym, ◌∙◌, subst, ap, true, Err}
 use Rattle.proof_log.proofs.Items.{Going, none_read}
 use Rattle.proof_log.proofs.Plain.{none_left, some_left, same_err}
 use Rattle.proof_log.proofs.Rows.{polys, no_poly_mark, no_poly, one_poly, polys_read}
-use Rattle.proof_log.proofs.tail.polys_of.Goals as goal
+use Rattle.proof_log.proofs.rest.polys_of.Goals as goal
 
 pub loop-behind-init : goal.loop-behind-init
 loop-behind-init c = record {

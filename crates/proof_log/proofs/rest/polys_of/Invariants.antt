@@ -2,7 +2,7 @@ use Rattle.std.proofs.Common.{◌≡◌, ◌≢◌, true, length, []}
 use Rattle.poly_model.specs.Names.{are_variables}
 use Rattle.proof_log.proofs.Items.{Going}
 use Rattle.proof_log.proofs.Rows.{polys, IsLater}
-use Rattle.proof_log.proofs.tail.polys_of.Given as goal
+use Rattle.proof_log.proofs.rest.polys_of.Given as goal
 
 abbrev pub invariant-loop-behind : goal.invariant-loop-behind
 invariant-loop-behind l = record {

@@ -2,7 +2,7 @@ use Rattle.std.proofs.Common.{◌≡◌, true, false, sym, ◌∙◌, ap, Err}
 use Rattle.poly_model.specs.Names.{are_variables}
 use Rattle.proof_log.proofs.Plain.{same_err}
 use Rattle.proof_log.proofs.Rows.{variables_are_names}
-use Rattle.proof_log.proofs.tail.names_of.Goals as goal
+use Rattle.proof_log.proofs.rest.names_of.Goals as goal
 
 pub returns-in-Ok-clause-refuses : goal.returns-in-Ok-clause-refuses
 returns-in-Ok-clause-refuses c bad ns valid e =

@@ -6,9 +6,9 @@ ghost use Rattle.poly_model.specs.Polynomial.{Polynomial};
 ghost use Rattle.poly_model.specs.declared.limits.TheConstants.{MOST_NUMBER};
 ghost use Rattle.poly_model.specs.declared.vars.VarName.{VarName};
 ghost use Rattle.poly_text.specs.Text.{poly_text, variable_text};
-ghost use Rattle.proof_log.specs.Kinds.{AreNames, poly_mark, tail_kind_of};
-ghost use Rattle.proof_log.specs.declared.tail.TailKind.{TailKind};
-ghost use Rattle.proof_log.specs.Text.{FitsPoly, FitPolys, polys_text, names_text, Tail, tail_text, FitsTail};
+ghost use Rattle.proof_log.specs.Kinds.{AreNames, poly_mark, rest_kind_of};
+ghost use Rattle.proof_log.specs.declared.rest.RestKind.{RestKind};
+ghost use Rattle.proof_log.specs.Text.{FitsPoly, FitPolys, polys_text, names_text, Rest, rest_text, FitsRest};
 ghost use Rattle.proof_log.specs.declared.fault.LineFault.{LineFault};
 
 use crate::attempt::attempt_of;
@@ -24,7 +24,7 @@ use verdicts::Verdict;
 
 /// What takes the rest of a line, behind its small fields.
 #[derive(Debug, Drop)]
-pub enum Tail {
+pub enum Rest {
     Nothing,
     Poly(OwnedPoly),
     Names(Vars),
@@ -34,7 +34,7 @@ pub enum Tail {
 
 /// The kind of the rest of a line.
 #[derive(Clone, Copy, Debug, PartialEq, Eq)]
-pub enum TailKind {
+pub enum RestKind {
     Nothing,
     Poly,
     Names,
@@ -161,48 +161,48 @@ pub fn polys_of(alloc: Global, text: &[u8], vars: &Vars) -> Result<Vec<OwnedPoly
 }
 
 /// The rest of a line behind its blank.
-fn tail_behind(alloc: Global, kind: TailKind, behind: &[u8], vars: &Vars) -> Result<Tail, LineFault>
-    ensures reads { IfOk result (λ t. (tail_kind_of t ≡ kind) × FitsTail vars.now t
-        × (space ∷ behind.now ≡ tail_text vars.now t)) }
-    ensures refuses { kind ≢ TailKind.Nothing → kind ≢ TailKind.Names
-        → IsErrOf result LineFault.Malformed → (t : Tail) → tail_kind_of t ≡ kind
-        → FitsTail vars.now t → space ∷ behind.now ≢ tail_text vars.now t }
+fn rest_behind(alloc: Global, kind: RestKind, behind: &[u8], vars: &Vars) -> Result<Rest, LineFault>
+    ensures reads { IfOk result (λ t. (rest_kind_of t ≡ kind) × FitsRest vars.now t
+        × (space ∷ behind.now ≡ rest_text vars.now t)) }
+    ensures refuses { kind ≢ RestKind.Nothing → kind ≢ RestKind.Names
+        → IsErrOf result LineFault.Malformed → (t : Rest) → rest_kind_of t ≡ kind
+        → FitsRest vars.now t → space ∷ behind.now ≢ rest_text vars.now t }
 {
     match kind {
-        TailKind::Poly => match poly_of(alloc, behind, vars) {
-            Ok(p) => Ok(Tail::Poly(p)),
+        RestKind::Poly => match poly_of(alloc, behind, vars) {
+            Ok(p) => Ok(Rest::Poly(p)),
             Err(fault) => Err(fault),
         },
-        TailKind::Tried => match attempt_of(alloc, behind) {
-            Ok(attempt) => Ok(Tail::Tried(attempt)),
+        RestKind::Tried => match attempt_of(alloc, behind) {
+            Ok(attempt) => Ok(Rest::Tried(attempt)),
             Err(fault) => Err(fault),
         },
-        TailKind::Told => match verdict_of(alloc, behind, vars) {
-            Ok(verdict) => Ok(Tail::Told(verdict)),
+        RestKind::Told => match verdict_of(alloc, behind, vars) {
+            Ok(verdict) => Ok(Rest::Told(verdict)),
             Err(fault) => Err(fault),
         },
-        TailKind::Nothing | TailKind::Names => Err(LineFault::Malformed),
+        RestKind::Nothing | RestKind::Names => Err(LineFault::Malformed),
     }
 }
 
 /// The rest of a line.
-pub fn tail_of(alloc: Global, kind: TailKind, text: &[u8], vars: &Vars) -> Result<Tail, LineFault>
-    ensures reads { IfOk result (λ t. (tail_kind_of t ≡ kind) × FitsTail vars.now t
-        × (text.now ≡ tail_text vars.now t)) }
-    ensures refuses { IsErrOf result LineFault.Malformed → (t : Tail) → tail_kind_of t ≡ kind
-        → FitsTail vars.now t → text.now ≢ tail_text vars.now t }
+pub fn rest_of(alloc: Global, kind: RestKind, text: &[u8], vars: &Vars) -> Result<Rest, LineFault>
+    ensures reads { IfOk result (λ t. (rest_kind_of t ≡ kind) × FitsRest vars.now t
+        × (text.now ≡ rest_text vars.now t)) }
+    ensures refuses { IsErrOf result LineFault.Malformed → (t : Rest) → rest_kind_of t ≡ kind
+        → FitsRest vars.now t → text.now ≢ rest_text vars.now t }
 {
     match kind {
-        TailKind::Nothing => match text {
-            [] => Ok(Tail::Nothing),
+        RestKind::Nothing => match text {
+            [] => Ok(Rest::Nothing),
             _ => Err(LineFault::Malformed),
         },
-        TailKind::Names => match names_of(alloc, text) {
-            Ok(vars) => Ok(Tail::Names(vars)),
+        RestKind::Names => match names_of(alloc, text) {
+            Ok(vars) => Ok(Rest::Names(vars)),
             Err(fault) => Err(fault),
         },
-        TailKind::Poly | TailKind::Tried | TailKind::Told => match behind_blank(text) {
-            Some(behind) => tail_behind(alloc, kind, behind, vars),
+        RestKind::Poly | RestKind::Tried | RestKind::Told => match behind_blank(text) {
+            Some(behind) => rest_behind(alloc, kind, behind, vars),
             None => Err(LineFault::Malformed),
         },
     }
