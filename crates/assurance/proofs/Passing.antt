@@ -92,7 +92,6 @@ module _ (test : Polynomial → Bool) (c : Passed test) where
       let told = same-is r (primitive_tail (item n.eqs f)) h in
       let result = c.tail (item n.eqs f) (get-passes n.eqs (f - 1) a.0) in
       ((set-passes n.eqs (f - 1) (primitive_tail (item n.eqs f)) a.0 result, a.1), one r (ap test told ∙ result))
-
   step-passes version n (step.Cancel g q r) h a =
       let R = without_variables (item n.nes q) (item n.eqs g) in
       let told = same-is r R h in

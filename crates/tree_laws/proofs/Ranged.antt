@@ -161,7 +161,6 @@ step-within version n m (step.Tail f q) r t =
         nes = r.nes;
       };
     }
-
 step-within version n m (step.Cancel g q p) r t =
     let Q = item m.nes q in
     let R = without_variables Q (item m.eqs g) in

@@ -64,7 +64,7 @@ module _ {M : Type 0} {o : Operations M} (L : IsDomain o) where
       let p = get_or E k [] in
       let test : Polynomial → Bool = λ q. is_variable q && (not (same q p) && is_divided (main_place q) p) in
       let found = lists.other-passes o test E k point h (λ t.
-          both_ways (same p p) (not-true (same p p) (and_parts (not (same p p)) _ (and_parts (is_variable p) _ t).1).0) (same-self p)) z in
+      both_ways (same p p) (not-true (same p p) (and_parts (not (same p p)) _ (and_parts (is_variable p) _ t).1).0) (same-self p)) z in
       let q = found.equation in
       let a = and_parts (is_variable q) _ found.passes in
       powers.divided-zero L (main_place q) p point (and_parts (not (same q p)) _ a.1).1 (sym (powers.variable-value L q point a.0) ∙ found.zero)
