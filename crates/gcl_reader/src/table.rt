@@ -1,10 +1,11 @@
-ghost use Rattle.std.specs.Prelude.{◌≡◌, List, ℕ};
-ghost use Rattle.gcl_reader.specs.Table.{named, heads, statements, head_text, statement_text, head_of, statement_of, parameters_of, points_of, text_of};
+ghost use Rattle.std.specs.Prelude.{◌≡◌, List, ℕ, option_map};
+ghost use Rattle.gcl_reader.specs.Table.{named, heads, claims, part_words, head_text, statement_text, claim_text, part_text, head_of, claim_of, part_named, text_of};
 
-use crate::word::{Head, Parameter, Range, Side, Statement, Word};
+use crate::word::{Claim, Head, Side, Statement, Word};
+use ratio_terms::Part;
 
 /// What has a spelling of its own in the language.
-pub trait Written: Copy {
+pub trait Written {
     ghost written: { Self → List ℕ };
 
     fn text(&self) -> &'static [u8]
@@ -22,18 +23,44 @@ impl Written for Head {
     }
 }
 
-impl Written for Statement {
-    ghost written = { statement_text };
+impl Written for Claim {
+    ghost written = { claim_text };
 
     fn text(&self) -> &'static [u8] {
         match self {
-            Statement::Identical => b"identical",
-            Statement::Collinear => b"collinear",
-            Statement::Perpendicular => b"perpendicular",
-            Statement::Parallel => b"parallel",
-            Statement::Midpoint => b"midpoint",
-            Statement::SameLength => b"same_length",
+            Claim::Points(statement) => statement_text(statement),
+            Claim::Equal => b"equal",
         }
+    }
+}
+
+impl Written for Part {
+    ghost written = { part_text };
+
+    fn text(&self) -> &'static [u8] {
+        match self {
+            Part::Whole(_) => b"",
+            Part::Area3 => b"signed_area3",
+            Part::Pyth3 => b"pythagoras_difference3",
+            Part::Sratio => b"sratio",
+            Part::Sum => b"sum",
+            Part::Mult => b"mult",
+        }
+    }
+}
+
+/// How a statement is written.
+pub fn statement_text(statement: &Statement) -> &'static [u8]
+    ensures { result.now ≡ statement_text statement.now }
+{
+    match statement {
+        Statement::Identical => b"identical",
+        Statement::Collinear => b"collinear",
+        Statement::Perpendicular => b"perpendicular",
+        Statement::Parallel => b"parallel",
+        Statement::Midpoint => b"midpoint",
+        Statement::SameLength => b"same_length",
+        Statement::Equal(_) => b"equal",
     }
 }
 
@@ -158,27 +185,42 @@ fn heads() -> &'static [Head]
     ]
 }
 
-fn statements() -> &'static [Statement]
-    ensures { result.now ≡ statements }
+/// What the first token in the braces of a proof can name.
+fn claims() -> &'static [Claim]
+    ensures { result.now ≡ claims }
 {
     &[
-        Statement::Identical,
-        Statement::Collinear,
-        Statement::Perpendicular,
-        Statement::Parallel,
-        Statement::Midpoint,
-        Statement::SameLength,
+        Claim::Points(Statement::Identical),
+        Claim::Points(Statement::Collinear),
+        Claim::Points(Statement::Perpendicular),
+        Claim::Points(Statement::Parallel),
+        Claim::Points(Statement::Midpoint),
+        Claim::Points(Statement::SameLength),
+        Claim::Equal,
+    ]
+}
+
+/// The parts of terms that have a word.
+fn part_words() -> &'static [Part]
+    ensures { result.now ≡ part_words }
+{
+    &[
+        Part::Area3,
+        Part::Pyth3,
+        Part::Sratio,
+        Part::Sum,
+        Part::Mult,
     ]
 }
 
 /// The first of the candidates that is written as the text.
-fn named<X: Written>(candidates: &[X], text: &[u8]) -> Option<X>
-    ensures { result ≡ named X.written candidates.now text.now }
+fn named<X: Written>(candidates: &'static [X], text: &[u8]) -> Option<&'static X>
+    ensures { option_map (λ x. x.now) result ≡ named X.written candidates.now text.now }
 {
     let mut rest = candidates;
     while let [candidate, after @ ..] = rest {
         if text == candidate.text() {
-            return Some(*candidate);
+            return Some(candidate);
         }
         rest = after;
     }
@@ -187,107 +229,24 @@ fn named<X: Written>(candidates: &[X], text: &[u8]) -> Option<X>
 
 /// What a command's first token begins.
 #[tactic(auto, unfolding(crate::specs::Table::head_of))]
-pub fn head_of(text: &[u8]) -> Option<Head>
-    ensures { result ≡ head_of text.now }
+pub fn head_of(text: &[u8]) -> Option<&'static Head>
+    ensures { option_map (λ h. h.now) result ≡ head_of text.now }
 {
     named(heads(), text)
 }
 
-/// The statement that a token names.
-#[tactic(auto, unfolding(crate::specs::Table::statement_of))]
-pub fn statement_of(text: &[u8]) -> Option<Statement>
-    ensures { result ≡ statement_of text.now }
+/// What a token names as the first in the braces of a proof.
+#[tactic(auto, unfolding(crate::specs::Table::claim_of))]
+pub fn claim_of(text: &[u8]) -> Option<&'static Claim>
+    ensures { option_map (λ c. c.now) result ≡ claim_of text.now }
 {
-    named(statements(), text)
+    named(claims(), text)
 }
 
-/// The parameters of a word.
-pub fn parameters_of(word: &Word) -> &'static [Parameter]
-    ensures { result.now ≡ parameters_of word.now }
+/// The part of a term that a token names.
+#[tactic(auto, unfolding(crate::specs::Table::part_named))]
+pub fn part_named(text: &[u8]) -> Option<&'static Part>
+    ensures { option_map (λ p. p.now) result ≡ part_named text.now }
 {
-    match word {
-        Word::Dim => &[
-            Parameter::Number(Range::Picture),
-            Parameter::Number(Range::Picture),
-        ],
-        Word::Color => &[
-            Parameter::Number(Range::Byte),
-            Parameter::Number(Range::Byte),
-            Parameter::Number(Range::Byte),
-        ],
-        Word::Prooflevel => &[Parameter::Number(Range::Any)],
-        Word::Prooflimit => &[Parameter::Number(Range::Any)],
-        Word::ProverTimeout => &[Parameter::Number(Range::Any)],
-        Word::Point => &[
-            Parameter::NewPoint,
-            Parameter::Number(Range::Any),
-            Parameter::Number(Range::Any),
-        ],
-        Word::Line => &[Parameter::NewLine, Parameter::Point, Parameter::Point],
-        Word::Circle => &[Parameter::NewCircle, Parameter::Point, Parameter::Point],
-        Word::Intersec => &[Parameter::NewPoint, Parameter::Line, Parameter::Line],
-        Word::Intersec2 => &[
-            Parameter::NewPoint,
-            Parameter::NewPoint,
-            Parameter::Curve,
-            Parameter::OtherCurve,
-        ],
-        Word::Midpoint => &[Parameter::NewPoint, Parameter::Point, Parameter::Point],
-        Word::Med => &[Parameter::NewLine, Parameter::Point, Parameter::Point],
-        Word::Perp => &[Parameter::NewLine, Parameter::Point, Parameter::Line],
-        Word::Parallel => &[Parameter::NewLine, Parameter::Point, Parameter::Line],
-        Word::Foot => &[Parameter::NewPoint, Parameter::Point, Parameter::Line],
-        Word::Online => &[Parameter::NewPoint, Parameter::Point, Parameter::Point],
-        Word::Oncircle => &[Parameter::NewPoint, Parameter::Point, Parameter::Point],
-        Word::Translate => &[
-            Parameter::NewPoint,
-            Parameter::Point,
-            Parameter::Point,
-            Parameter::Point,
-        ],
-        Word::Towards => &[
-            Parameter::NewPoint,
-            Parameter::Point,
-            Parameter::Point,
-            Parameter::Number(Range::Any),
-        ],
-        Word::Drawpoint => &[Parameter::Point],
-        Word::Drawsegment => &[Parameter::Point, Parameter::Point],
-        Word::Drawdashsegment => &[Parameter::Point, Parameter::Point],
-        Word::Drawline => &[Parameter::Line],
-        Word::Drawcircle => &[Parameter::Circle],
-        Word::Cmark => &[Parameter::Point],
-        Word::CmarkAt(_) => &[Parameter::Point],
-        Word::Mark(_) => &[Parameter::Point],
-        Word::Prove(statement) => points_of(statement),
-    }
-}
-
-/// What stands behind a statement.
-fn points_of(statement: &Statement) -> &'static [Parameter]
-    ensures { result.now ≡ points_of statement.now }
-{
-    match statement {
-        Statement::Identical => &[Parameter::Point, Parameter::Point],
-        Statement::Collinear => &[Parameter::Point, Parameter::Point, Parameter::Point],
-        Statement::Perpendicular => &[
-            Parameter::Point,
-            Parameter::Point,
-            Parameter::Point,
-            Parameter::Point,
-        ],
-        Statement::Parallel => &[
-            Parameter::Point,
-            Parameter::Point,
-            Parameter::Point,
-            Parameter::Point,
-        ],
-        Statement::Midpoint => &[Parameter::Point, Parameter::Point, Parameter::Point],
-        Statement::SameLength => &[
-            Parameter::Point,
-            Parameter::Point,
-            Parameter::Point,
-            Parameter::Point,
-        ],
-    }
+    named(part_words(), text)
 }
