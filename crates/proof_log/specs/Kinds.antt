@@ -55,7 +55,7 @@ AreAt (k ∷ ks) (f ∷ fs) = IsAt k f × AreAt ks fs
 
 -- All words, those of most lines first.
 abbrev pub words : List LineWord
-words = word.Red ∷ word.Step ∷ word.Eq ∷ word.Hyp ∷ word.Ne ∷ word.Tail ∷ word.Split ∷ word.Node ∷ word.Drop ∷ word.Close ∷ word.Clash ∷ word.System ∷ word.Proved ∷ word.Con ∷ word.Vars ∷ word.Remainder ∷ word.Unreduced ∷ word.Open ∷ word.Prove ∷ word.Verdict ∷ word.Proves ∷ word.Fuel ∷ word.Head ∷ word.End ∷ []
+words = word.Red ∷ word.Step ∷ word.Eq ∷ word.Hyp ∷ word.Ne ∷ word.Tail ∷ word.Cancel ∷ word.Split ∷ word.Factor ∷ word.Node ∷ word.Drop ∷ word.Close ∷ word.Clash ∷ word.Void ∷ word.System ∷ word.Proved ∷ word.Con ∷ word.Vars ∷ word.Remainder ∷ word.Unreduced ∷ word.Open ∷ word.Prove ∷ word.Verdict ∷ word.Proves ∷ word.Fuel ∷ word.Head ∷ word.End ∷ []
 
 abbrev pub field_kinds : LineWord → List FieldKind
 field_kinds word.Head = kind.Version ∷ []
