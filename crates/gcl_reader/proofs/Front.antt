@@ -57,53 +57,54 @@ commands-regroup : (front : List Command) (c : Command) (read : Result (List Com
 commands-regroup front c (Ok x) = ap (λ (xs : List Command). Ok xs) (simp append_assoc)
 commands-regroup front c (Err f) = refl
 
-commands-cons : (n : ℕ) (front : List Command) (x : Lexed) (t : Token) (h : Head) (y after : Lexed) (c : Command) → first_at x ≡ Ok (Some (t, h, y)) → command_at t h y ≡ Ok (c, after) →
-    commands_behind front (commands_at (suc n) x) ≡ commands_behind (front ++ c ∷ []) (commands_at n after)
-unfolding commands_at
-commands-cons n front x t h y after c e k = rw (e, k) (commands-regroup front c (commands_at n after))
+module _ (deep : ℕ) where
+  commands-cons : (n : ℕ) (front : List Command) (x : Lexed) (t : Token) (h : Head) (y after : Lexed) (c : Command) → first_at x ≡ Ok (Some (t, h, y)) → command_at deep t h y ≡ Ok (c, after) →
+      commands_behind front (commands_at deep (suc n) x) ≡ commands_behind (front ++ c ∷ []) (commands_at deep n after)
+  unfolding commands_at
+  commands-cons n front x t h y after c e k = rw (e, k) (commands-regroup front c (commands_at deep n after))
 
--- One more command is read.
-pub commands-more : (most count : ℕ) (front : List Command) (x : Lexed) (t : Token) (h : Head) (y after : Lexed) (c : Command) → count < most →
-    first_at x ≡ Ok (Some (t, h, y)) → command_at t h y ≡ Ok (c, after) →
-    commands_behind (front ++ c ∷ []) (commands_at (most - (count + 1)) after) ≡ commands_behind front (commands_at (most - count) x)
-commands-more most count front x t h y after c lt e k =
-    let n : most - count ≡ suc (most - (count + 1)) = omega arith in
-    rw n (sym (commands-cons (most - (count + 1)) front x t h y after c e k))
+  -- One more command is read.
+  pub commands-more : (most count : ℕ) (front : List Command) (x : Lexed) (t : Token) (h : Head) (y after : Lexed) (c : Command) → count < most →
+      first_at x ≡ Ok (Some (t, h, y)) → command_at deep t h y ≡ Ok (c, after) →
+      commands_behind (front ++ c ∷ []) (commands_at deep (most - (count + 1)) after) ≡ commands_behind front (commands_at deep (most - count) x)
+  commands-more most count front x t h y after c lt e k =
+      let n : most - count ≡ suc (most - (count + 1)) = omega arith in
+      rw n (sym (commands-cons (most - (count + 1)) front x t h y after c e k))
 
--- The first token of a command refuses.
-pub commands-first-fail : (n : ℕ) (e : GclFault) (front : List Command) (x : Lexed) (total : Result (List Command) Refusal) →
-    Fails e (first_at x) → commands_behind front (commands_at n x) ≡ total → Fails e total
-unfolding commands_at
-commands-first-fail n fault.OutOfMemory front x total r so_far = tt
-commands-first-fail zero (fault.Refused f) front x total r so_far =
-    let one : commands_behind front (commands_at 0 x) ≡ Err f = rw r refl in sym so_far ∙ one
-commands-first-fail (suc n) (fault.Refused f) front x total r so_far =
-    let one : commands_behind front (commands_at (suc n) x) ≡ Err f = rw r refl in sym so_far ∙ one
+  -- The first token of a command refuses.
+  pub commands-first-fail : (n : ℕ) (e : GclFault) (front : List Command) (x : Lexed) (total : Result (List Command) Refusal) →
+      Fails e (first_at x) → commands_behind front (commands_at deep n x) ≡ total → Fails e total
+  unfolding commands_at
+  commands-first-fail n fault.OutOfMemory front x total r so_far = tt
+  commands-first-fail zero (fault.Refused f) front x total r so_far =
+      let one : commands_behind front (commands_at deep 0 x) ≡ Err f = rw r refl in sym so_far ∙ one
+  commands-first-fail (suc n) (fault.Refused f) front x total r so_far =
+      let one : commands_behind front (commands_at deep (suc n) x) ≡ Err f = rw r refl in sym so_far ∙ one
 
--- What stands behind it refuses.
-pub commands-fail : (most count : ℕ) (e : GclFault) (front : List Command) (x : Lexed) (t : Token) (h : Head) (y : Lexed) (total : Result (List Command) Refusal) → count < most →
-    first_at x ≡ Ok (Some (t, h, y)) → Fails e (command_at t h y) → commands_behind front (commands_at (most - count) x) ≡ total → Fails e total
-unfolding commands_at
-commands-fail most count fault.OutOfMemory front x t h y total lt k r so_far = tt
-commands-fail most count (fault.Refused f) front x t h y total lt k r so_far =
-    let n : most - count ≡ suc (most - (count + 1)) = omega arith in
-    let one : commands_behind front (commands_at (suc (most - (count + 1))) x) ≡ Err f = rw (k, r) refl in
-    sym so_far ∙ rw n one
+  -- What stands behind it refuses.
+  pub commands-fail : (most count : ℕ) (e : GclFault) (front : List Command) (x : Lexed) (t : Token) (h : Head) (y : Lexed) (total : Result (List Command) Refusal) → count < most →
+      first_at x ≡ Ok (Some (t, h, y)) → Fails e (command_at deep t h y) → commands_behind front (commands_at deep (most - count) x) ≡ total → Fails e total
+  unfolding commands_at
+  commands-fail most count fault.OutOfMemory front x t h y total lt k r so_far = tt
+  commands-fail most count (fault.Refused f) front x t h y total lt k r so_far =
+      let n : most - count ≡ suc (most - (count + 1)) = omega arith in
+      let one : commands_behind front (commands_at deep (suc (most - (count + 1))) x) ≡ Err f = rw (k, r) refl in
+      sym so_far ∙ rw n one
 
--- One command is too many.
-pub commands-many : (most count : ℕ) (front : List Command) (x : Lexed) (t : Token) (h : Head) (y : Lexed) (total : Result (List Command) Refusal) → count ≡ most →
-    first_at x ≡ Ok (Some (t, h, y)) → commands_behind front (commands_at (most - count) x) ≡ total → total ≡ Err (refused kind.TooManyCommands t)
-unfolding commands_at
-commands-many most count front x t h y total e k so_far =
-    let n : most - count ≡ 0 = omega arith in
-    let one : commands_behind front (commands_at 0 x) ≡ Err (refused kind.TooManyCommands t) = rw k refl in
-    sym so_far ∙ rw n one
+  -- One command is too many.
+  pub commands-many : (most count : ℕ) (front : List Command) (x : Lexed) (t : Token) (h : Head) (y : Lexed) (total : Result (List Command) Refusal) → count ≡ most →
+      first_at x ≡ Ok (Some (t, h, y)) → commands_behind front (commands_at deep (most - count) x) ≡ total → total ≡ Err (refused kind.TooManyCommands t)
+  unfolding commands_at
+  commands-many most count front x t h y total e k so_far =
+      let n : most - count ≡ 0 = omega arith in
+      let one : commands_behind front (commands_at deep 0 x) ≡ Err (refused kind.TooManyCommands t) = rw k refl in
+      sym so_far ∙ rw n one
 
--- No command is left.
-pub commands-done : (n : ℕ) (front : List Command) (x : Lexed) (total : Result (List Command) Refusal) →
-    first_at x ≡ Ok None → commands_behind front (commands_at n x) ≡ total → total ≡ Ok front
-unfolding commands_at
-commands-done zero front x total k so_far =
-    let one : commands_behind front (commands_at 0 x) ≡ Ok front = rw k (ap (λ (xs : List Command). Ok xs) (append-nil front)) in sym so_far ∙ one
-commands-done (suc n) front x total k so_far =
-    let one : commands_behind front (commands_at (suc n) x) ≡ Ok front = rw k (ap (λ (xs : List Command). Ok xs) (append-nil front)) in sym so_far ∙ one
+  -- No command is left.
+  pub commands-done : (n : ℕ) (front : List Command) (x : Lexed) (total : Result (List Command) Refusal) →
+      first_at x ≡ Ok None → commands_behind front (commands_at deep n x) ≡ total → total ≡ Ok front
+  unfolding commands_at
+  commands-done zero front x total k so_far =
+      let one : commands_behind front (commands_at deep 0 x) ≡ Ok front = rw k (ap (λ (xs : List Command). Ok xs) (append-nil front)) in sym so_far ∙ one
+  commands-done (suc n) front x total k so_far =
+      let one : commands_behind front (commands_at deep (suc n) x) ≡ Ok front = rw k (ap (λ (xs : List Command). Ok xs) (append-nil front)) in sym so_far ∙ one

@@ -2,8 +2,12 @@ pub mod Named
 pub mod Front
 pub mod Cut
 pub mod Bind
+pub mod Operands
+pub mod TermsFit
 pub mod Words
 pub mod Spelled
+pub mod SpelledTerms
+pub mod SpelledCommands
 pub mod ReadAgain
 pub mod Lines
 pub mod ShownAgain

@@ -4,14 +4,20 @@ use Rattle.std.specs.Str.{bytes_eq}
 use Rattle.std.specs.List.{list_all}
 use Rattle.std.proofs.lemmas.Bool.{and_parts}
 use Rattle.std.proofs.lemmas.Slice.Eq.{bytes_eq-Decides}
-use Rattle.gcl_reader.specs.Table.{named, heads, head_text, statements, statement_text, text_of, head_of, statement_of}
-use Rattle.gcl_reader.specs.Fitting.{IsWord}
+use Rattle.fixed_point.specs.Decimal.{fix_of}
+use Rattle.fixed_point.specs.declared.fault.NumberFault.TheVariants as number
+use Rattle.ratio_terms.specs.declared.part.Part.{Part}
+use Rattle.ratio_terms.specs.declared.part.Part.TheVariants as part
+use Rattle.gcl_reader.specs.Table.{named, heads, head_text, claims, claim_text, part_words, part_text, statement_text, text_of, head_of, claim_of, part_named}
+use Rattle.gcl_reader.specs.Fitting.{IsStatement, IsWord, IsWithin, IsWordWithin}
 use Rattle.gcl_reader.specs.Spelling.{statement_in}
 use Rattle.gcl_reader.specs.declared.word.Word.{Word}
 use Rattle.gcl_reader.specs.declared.word.Word.TheVariants as word
 use Rattle.gcl_reader.specs.declared.word.Side.TheVariants as side
 use Rattle.gcl_reader.specs.declared.word.Statement.{Statement}
 use Rattle.gcl_reader.specs.declared.word.Statement.TheVariants as statement
+use Rattle.gcl_reader.specs.declared.word.Claim.{Claim}
+use Rattle.gcl_reader.specs.declared.word.Claim.TheVariants as claim
 use Rattle.gcl_reader.specs.declared.word.Head.{Head}
 use Rattle.gcl_reader.specs.declared.word.Head.TheVariants as head
 
@@ -55,6 +61,11 @@ word-alone (word.CmarkAt side.Centre) h = cc
 word-alone (word.Prove s) h = cc
 word-alone w h = (refl, tt)
 
+-- A word that asks for no proof has no braces.
+pub alone-within : (deep : ℕ) (w : Word) → statement_in w ≡ None → IsWordWithin deep w
+alone-within deep (word.Prove s) e = cc
+alone-within deep w e = tt
+
 -- The first token of a command is its word, or that of a proof.
 abbrev pub IsHead : List ℕ → Head → Type 0
 IsHead text (head.Word w) = (text ≡ text_of w) × (statement_in w ≡ None) × IsWord w
@@ -67,9 +78,64 @@ head-is text (head.Word w) e =
     (named-text head_text heads text (head.Word w) e, p.0, p.1)
 head-is text head.Prove e = named-text head_text heads text head.Prove e
 
-pub statement-is : (text : List ℕ) (s : Statement) → statement_of text ≡ Some s → text ≡ statement_text s
-unfolding statement_of
-statement-is text s e = named-text statement_text statements text s e
+-- whether a claim is a statement over points, or an equality
+has_points : Statement → Bool
+has_points (statement.Equal parts) = false
+has_points s = true
+
+is_plain : Claim → Bool
+is_plain (claim.Points s) = has_points s
+is_plain claim.Equal = true
+
+all-plain : list_all is_plain claims ≡ true
+unfolding is_plain has_points
+all-plain = refl
+
+-- A statement over points: it has no terms.
+abbrev pub IsOverPoints : Statement → Type 0
+IsOverPoints (statement.Equal parts) = ⊥
+IsOverPoints s = Unit {0}
+
+over-points : (s : Statement) → is_plain (claim.Points s) ≡ true → IsOverPoints s
+unfolding is_plain has_points
+over-points (statement.Equal parts) h = cc
+over-points s h = tt
+
+abbrev pub IsPlain : Claim → Type 0
+IsPlain (claim.Points s) = IsOverPoints s
+IsPlain claim.Equal = Unit {0}
+
+abbrev pub IsClaim : List ℕ → Claim → Type 0
+IsClaim text (claim.Points s) = (text ≡ statement_text s) × IsOverPoints s
+IsClaim text claim.Equal = text ≡ codes "equal"
+
+pub claim-is : (text : List ℕ) (c : Claim) → claim_of text ≡ Some c → IsClaim text c
+unfolding claim_of
+claim-is text (claim.Points s) e =
+    (named-text claim_text claims text (claim.Points s) e, over-points s (named-test claim_text is_plain claims text (claim.Points s) all-plain e))
+claim-is text claim.Equal e = named-text claim_text claims text claim.Equal e
+
+-- The word of a part is no number.
+has_word : Part → Bool
+has_word (part.Whole k) = false
+has_word p = true
+
+all-words : list_all has_word part_words ≡ true
+unfolding has_word
+all-words = refl
+
+abbrev pub HasWord : Part → Type 0
+HasWord (part.Whole k) = ⊥
+HasWord p = Unit {0}
+
+word-there : (p : Part) → has_word p ≡ true → HasWord p
+unfolding has_word
+word-there (part.Whole k) h = cc
+word-there p h = tt
+
+pub part-is : (text : List ℕ) (p : Part) → part_named text ≡ Some p → (text ≡ part_text p) × HasWord p
+unfolding part_named
+part-is text p e = (named-text part_text part_words text p e, word-there p (named-test part_text has_word part_words text p all-words e))
 
 -- Each word is found by its text.
 pub word-found : (w : Word) → IsWord w → statement_in w ≡ None → head_of (text_of w) ≡ Some (head.Word w)
@@ -83,7 +149,14 @@ pub prove-found : head_of (codes "prove") ≡ Some head.Prove
 unfolding head_of named
 prove-found = refl
 
-pub statement-found : (s : Statement) → statement_of (statement_text s) ≡ Some s
-unfolding statement_of named
-statement-found statement.Identical = refl
-statement-found s = refl
+pub claim-found : (c : Claim) → IsPlain c → claim_of (claim_text c) ≡ Some c
+unfolding claim_of named
+claim-found (claim.Points statement.Identical) i = refl
+claim-found (claim.Points (statement.Equal parts)) i = absurd i
+claim-found (claim.Points s) i = refl
+claim-found claim.Equal i = refl
+
+pub part-found : (p : Part) → HasWord p → part_named (part_text p) ≡ Some p
+unfolding part_named named
+part-found (part.Whole k) h = absurd h
+part-found p h = refl

@@ -1,10 +1,13 @@
 -- What the reader's parts mean: what a lexer has ahead of it, and what it gives.
-use Rattle.std.specs.Prelude.{◌≡◌, [], Result, Ok, Err, Option, Some, None}
+use Rattle.std.specs.Prelude.{◌≡◌, List, [], Result, Ok, Err, Option, Some, None}
 use Rattle.gcl_reader.specs.Tokens.{Token, Lexed, Mode, Between, ahead_of, put}
 use Rattle.gcl_reader.specs.declared.lexer.Lexer.{Lexer}
 use Rattle.gcl_reader.specs.declared.lexer.Lexeme.{Lexeme}
 use Rattle.gcl_reader.specs.declared.lexer.End.{End}
 use Rattle.gcl_reader.specs.declared.word.Head.{Head}
+use Rattle.gcl_reader.specs.declared.word.Parameter.{Parameter}
+use Rattle.gcl_reader.specs.declared.parameters.Parameters.{Parameters}
+use Rattle.gcl_reader.specs.declared.parameters.Parameters.TheVariants as parameters
 
 -- A token of the code as one of the definitions.
 abbrev pub token_of : Lexeme → Token
@@ -27,3 +30,8 @@ next_of (Err e) before after = (before ≡ record { tokens = []; end_line = e.li
 abbrev pub first_of : Option (Lexeme × Head) → Lexed → Option (Token × Head × Lexed)
 first_of None after = None
 first_of (Some f) after = Some (token_of f.0, f.1, after)
+
+-- The parameters, however they are kept.
+abbrev pub listed : Parameters → List Parameter
+listed (parameters.Fixed ps) = ps.now
+listed (parameters.Made ps) = ps

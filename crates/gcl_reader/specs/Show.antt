@@ -1,12 +1,16 @@
 -- The canonical spelling of commands, and what it is read as.
-use Rattle.std.specs.Prelude.{◌≡◌, ℕ, ◌+◌, List, [], ◌∷◌, ◌++◌, map, flat_map, Option, Some, None, Ok, codes}
+use Rattle.std.specs.Prelude.{◌≡◌, ◌≤◌, ℕ, ◌+◌, length, IsTrue, List, [], ◌∷◌, ◌++◌, map, flat_map, Option, Some, None, Ok, codes, decimal}
 use Rattle.fixed_point.specs.Text.{number_text}
 use Rattle.fixed_point.specs.declared.limits.TheConstants.{MOST_DECIMALS}
-use Rattle.gcl_reader.specs.Table.{text_of, statement_text}
+use Rattle.ratio_terms.specs.Terms.{Term, Whole, Area, Pythagoras, Ratio, Sum, Product, are_terms, names_in, terms_of}
+use Rattle.ratio_terms.specs.declared.part.Part.{Part}
+use Rattle.ratio_terms.specs.declared.part.Part.TheVariants as part
+use Rattle.gcl_reader.specs.Table.{text_of, statement_text, part_text}
 use Rattle.gcl_reader.specs.Grammar.{file_of}
 use Rattle.gcl_reader.specs.Fitting.{IsFitting}
 use Rattle.gcl_reader.specs.Spelling.{statement_in}
 use Rattle.gcl_reader.specs.declared.word.Statement.{Statement}
+use Rattle.gcl_reader.specs.declared.word.Statement.TheVariants as statement
 use Rattle.gcl_reader.specs.declared.file.What.{What}
 use Rattle.gcl_reader.specs.declared.file.What.TheVariants as what
 use Rattle.gcl_reader.specs.declared.file.Arg.{Arg}
@@ -21,10 +25,46 @@ value_text (what.Number n) = number_text MOST_DECIMALS n
 abbrev pub arg_text : Arg → List ℕ
 arg_text a = codes " " ++ value_text a.what
 
--- What stands behind a word: its arguments; for a proof they stand in braces, behind the statement.
+-- A word and what stands behind it, in braces.
+abbrev pub in_braces : List ℕ → List ℕ → List ℕ
+in_braces name rest = codes " { " ++ name ++ rest ++ codes " }"
+
+-- The word of a part, or its whole number.
+abbrev pub part_name : Part → List ℕ
+part_name (part.Whole k) = decimal k
+part_name part.Area3 = part_text part.Area3
+part_name part.Pyth3 = part_text part.Pyth3
+part_name part.Sratio = part_text part.Sratio
+part_name part.Sum = part_text part.Sum
+part_name part.Mult = part_text part.Mult
+
+-- A term stands in braces: its word, and its arguments or operands. A whole number has its digits.
+abbrev pub term_text : Term Arg → List ℕ
+term_text (Whole k) = in_braces (part_name (part.Whole k)) []
+term_text (Area a b c) = in_braces (part_name part.Area3) (flat_map arg_text (a ∷ b ∷ c ∷ []))
+term_text (Pythagoras a b c) = in_braces (part_name part.Pyth3) (flat_map arg_text (a ∷ b ∷ c ∷ []))
+term_text (Ratio a b c d) = in_braces (part_name part.Sratio) (flat_map arg_text (a ∷ b ∷ c ∷ d ∷ []))
+term_text (Sum s t) = in_braces (part_name part.Sum) (term_text s ++ term_text t)
+term_text (Product s t) = in_braces (part_name part.Mult) (term_text s ++ term_text t)
+
+-- What stands behind the name of a statement: its points; or the terms of an equality.
+abbrev pub claim_rest : Statement → List Arg → List ℕ
+claim_rest (statement.Equal parts) args = flat_map term_text (terms_of parts args)
+claim_rest s args = flat_map arg_text args
+
+-- What stands behind a word: its arguments; for a proof its statement in braces.
 abbrev pub rest_text : Option Statement → List Arg → List ℕ
 rest_text None args = flat_map arg_text args
-rest_text (Some s) args = codes " { " ++ statement_text s ++ flat_map arg_text args ++ codes " }"
+rest_text (Some s) args = in_braces (statement_text s) (claim_rest s args)
+
+-- An equality can be written where its parts are two terms, with arguments enough.
+abbrev pub IsShowable : Statement → List Arg → Type 0
+IsShowable (statement.Equal parts) args = IsTrue (are_terms 2 parts) × (names_in parts ≤ length args)
+IsShowable s args = Unit {0}
+
+abbrev pub AreShowable : Option Statement → List Arg → Type 0
+AreShowable None args = Unit {0}
+AreShowable (Some s) args = IsShowable s args
 
 -- A command is a line.
 abbrev pub line_text : Command → List ℕ

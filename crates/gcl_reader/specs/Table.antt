@@ -1,5 +1,5 @@
 -- The command table: how each word and each statement is written, and what stands behind it.
-use Rattle.std.specs.Prelude.{ℕ, List, [], ◌∷◌, ◌++◌, map, Option, Some, None, codes, Bool, true, false, if◌then◌else◌, ◌&&◌, ◌==◌, ◌%◌, ◌*◌, nat_le, ℤ, pos, negsuc, int_le}
+use Rattle.std.specs.Prelude.{ℕ, List, [], ◌∷◌, ◌++◌, map, flat_map, Option, Some, None, codes, Bool, true, false, if◌then◌else◌, ◌&&◌, ◌==◌, ◌%◌, ◌*◌, nat_le, ℤ, pos, negsuc, int_le}
 use Rattle.std.specs.Str.{bytes_eq}
 use Rattle.fixed_point.specs.Ticks.{ticks_of}
 use Rattle.fixed_point.specs.declared.limits.TheConstants.{MOST_TICKS}
@@ -10,6 +10,10 @@ use Rattle.gcl_reader.specs.declared.word.Word.{Word}
 use Rattle.gcl_reader.specs.declared.word.Word.TheVariants as word
 use Rattle.gcl_reader.specs.declared.word.Statement.{Statement}
 use Rattle.gcl_reader.specs.declared.word.Statement.TheVariants as statement
+use Rattle.ratio_terms.specs.declared.part.Part.{Part}
+use Rattle.ratio_terms.specs.declared.part.Part.TheVariants as part
+use Rattle.gcl_reader.specs.declared.word.Claim.{Claim}
+use Rattle.gcl_reader.specs.declared.word.Claim.TheVariants as claim
 use Rattle.gcl_reader.specs.declared.word.Head.{Head}
 use Rattle.gcl_reader.specs.declared.word.Head.TheVariants as head
 use Rattle.gcl_reader.specs.declared.word.Parameter.{Parameter}
@@ -69,6 +73,25 @@ statement_text statement.Perpendicular = codes "perpendicular"
 statement_text statement.Parallel = codes "parallel"
 statement_text statement.Midpoint = codes "midpoint"
 statement_text statement.SameLength = codes "same_length"
+statement_text (statement.Equal parts) = codes "equal"
+
+-- How the part of a term is written; a whole number has no word.
+abbrev pub part_text : Part → List ℕ
+part_text (part.Whole k) = []
+part_text part.Area3 = codes "signed_area3"
+part_text part.Pyth3 = codes "pythagoras_difference3"
+part_text part.Sratio = codes "sratio"
+part_text part.Sum = codes "sum"
+part_text part.Mult = codes "mult"
+
+-- What stands behind the word of a part. The fourth point of a ratio is not its third.
+abbrev pub parameters_in : Part → List Parameter
+parameters_in (part.Whole k) = []
+parameters_in part.Area3 = parameter.Point ∷ parameter.Point ∷ parameter.Point ∷ []
+parameters_in part.Pyth3 = parameter.Point ∷ parameter.Point ∷ parameter.Point ∷ []
+parameters_in part.Sratio = parameter.Point ∷ parameter.Point ∷ parameter.Point ∷ parameter.OtherPoint ∷ []
+parameters_in part.Sum = []
+parameters_in part.Mult = []
 
 -- What stands behind a statement.
 abbrev pub points_of : Statement → List Parameter
@@ -78,6 +101,7 @@ points_of statement.Perpendicular = parameter.Point ∷ parameter.Point ∷ para
 points_of statement.Parallel = parameter.Point ∷ parameter.Point ∷ parameter.Point ∷ parameter.Point ∷ []
 points_of statement.Midpoint = parameter.Point ∷ parameter.Point ∷ parameter.Point ∷ []
 points_of statement.SameLength = parameter.Point ∷ parameter.Point ∷ parameter.Point ∷ parameter.Point ∷ []
+points_of (statement.Equal parts) = flat_map parameters_in parts
 
 -- The parameters of a word.
 abbrev pub parameters_of : Word → List Parameter
@@ -114,11 +138,15 @@ parameters_of (word.Prove s) = points_of s
 abbrev pub sides : List Side
 sides = side.L ∷ side.R ∷ side.T ∷ side.B ∷ side.Lt ∷ side.Lb ∷ side.Rt ∷ side.Rb ∷ []
 
--- The statements.
+-- The statements over points.
 abbrev pub statements : List Statement
 statements =
     statement.Identical ∷ statement.Collinear ∷ statement.Perpendicular ∷ statement.Parallel ∷
     statement.Midpoint ∷ statement.SameLength ∷ []
+
+-- The parts of terms that have a word.
+abbrev pub part_words : List Part
+part_words = part.Area3 ∷ part.Pyth3 ∷ part.Sratio ∷ part.Sum ∷ part.Mult ∷ []
 
 -- The words that stand alone in front of their arguments.
 abbrev pub words : List Word
@@ -134,6 +162,15 @@ words =
 abbrev pub heads : List Head
 heads = map head.Word words ++ head.Prove ∷ []
 
+-- What the first token in the braces of a proof can name: one of these statements, or an equality, whose terms stand behind it.
+abbrev pub claims : List Claim
+claims = map claim.Points statements ++ claim.Equal ∷ []
+
+-- How that token is written.
+abbrev pub claim_text : Claim → List ℕ
+claim_text (claim.Points s) = statement_text s
+claim_text claim.Equal = codes "equal"
+
 -- How the first token is written.
 abbrev pub head_text : Head → List ℕ
 head_text (head.Word w) = text_of w
@@ -148,9 +185,13 @@ named written (x ∷ xs) text = if bytes_eq text (written x) then Some x else na
 unfoldable pub head_of : List ℕ → Option Head
 head_of text = named head_text heads text
 
--- The statement that a token names.
-unfoldable pub statement_of : List ℕ → Option Statement
-statement_of text = named statement_text statements text
+-- What the first token in the braces of a proof names.
+unfoldable pub claim_of : List ℕ → Option Claim
+claim_of text = named claim_text claims text
+
+-- The part of a term that a token names.
+unfoldable pub part_named : List ℕ → Option Part
+part_named text = named part_text part_words text
 
 -- Whether a range has a number of so many millionths: a whole byte, or the extent of a picture,
 -- which is at least one tick when it is rounded to ticks.

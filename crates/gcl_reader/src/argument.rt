@@ -2,7 +2,7 @@ ghost use Rattle.std.specs.Prelude.{◌≡◌, ◌+◌, ◌≤◌, ◌<◌, ◌^
 ghost use Rattle.gcl_reader.specs.Ahead.{ahead, token_of};
 ghost use Rattle.fixed_point.specs.Decimal.{fix_of};
 ghost use Rattle.gcl_reader.specs.Table.{in_range};
-ghost use Rattle.gcl_reader.specs.Grammar.{Gives, token_at, arg_with, number_in, name_in, arg_of, arg_at, refused};
+ghost use Rattle.gcl_reader.specs.Grammar.{Gives, token_at, arg_with, number_in, name_in, arg_of, arg_at, args_at, brace_at, refused};
 
 use crate::file::{Arg, What};
 use crate::lexer::{Lexeme, Lexer};
@@ -11,6 +11,7 @@ use crate::name::Name;
 use crate::refusal::{GclFault, Kind, Refusal};
 use crate::word::{Parameter, Range};
 use fixed_point::{Fix, MOST_TICKS, NumberFault, read_fix, ticks};
+use std::alloc::Global;
 
 /// The refusal of a token.
 pub fn refused(kind: Kind, token: Lexeme<'_>) -> Refusal
@@ -108,5 +109,37 @@ pub fn arg_at(parameter: Parameter, lexer: &mut Lexer<'_>) -> Result<Arg, GclFau
     match arg_of(parameter, token) {
         Ok(arg) => Ok(arg),
         Err(refusal) => Err(GclFault::Refused(refusal)),
+    }
+}
+
+/// The next tokens, one for each parameter.
+pub fn args_at(
+    alloc: Global,
+    parameters: &[Parameter],
+    lexer: &mut Lexer<'_>,
+) -> Result<Vec<Arg>, GclFault>
+    ensures { Gives (λ v. (v.items, ahead lexer.new)) result
+        (args_at parameters.now (ahead lexer.old)) }
+{
+    let mut args = Vec::new(alloc);
+    let mut rest = parameters;
+    while let [parameter, after @ ..] = rest {
+        let arg = arg_at(*parameter, lexer)?;
+        args.push(arg)?;
+        rest = after;
+    }
+    Ok(args)
+}
+
+/// The next token, which is the brace.
+#[tactic(auto, unfolding(crate::specs::Grammar::brace_at))]
+pub fn brace_at(brace: &[u8], lexer: &mut Lexer<'_>) -> Result<(), GclFault>
+    ensures { Gives (λ _. ahead lexer.new) result (brace_at brace.now (ahead lexer.old)) }
+{
+    let token = token_at(lexer)?;
+    if token.text == brace {
+        Ok(())
+    } else {
+        Err(GclFault::Refused(refused(Kind::WantsBrace, token)))
     }
 }

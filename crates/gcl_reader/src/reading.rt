@@ -1,90 +1,90 @@
 ghost use Rattle.std.specs.Prelude.{◌≡◌, ◌+◌, ◌≤◌, ◌<◌, ◌^◌, length, [], ◌∷◌, option_map, Option, Some, None, IfOk};
-ghost use Rattle.gcl_reader.specs.declared.limits.TheConstants.{MOST_BYTES, MOST_COMMANDS};
+ghost use Rattle.gcl_reader.specs.declared.limits.TheConstants.{MOST_BRACES, MOST_BYTES, MOST_COMMANDS};
 ghost use Rattle.gcl_reader.specs.Tokens.{lexed, put, tokens};
 ghost use Rattle.gcl_reader.specs.Standing.{TokensStand};
 ghost use Rattle.gcl_reader.specs.Fitting.{IsFitting};
 ghost use Rattle.gcl_reader.specs.Spelling.{Spells, SpelledIsRead};
 ghost use Rattle.gcl_reader.specs.Ahead.{ahead, token_of, first_of};
-ghost use Rattle.gcl_reader.specs.Table.{parameters_of};
-ghost use Rattle.gcl_reader.specs.Grammar.{Gives, args_at, brace_at, statement_at, word_at, close_at, command_at, first_at, commands_at, file_of};
+ghost use Rattle.gcl_reader.specs.Grammar.{Gives, claim_at, claimed_at, said_at, command_at, first_at, commands_at, file_of};
 
-use crate::argument::{arg_at, refused, token_at};
+use crate::argument::{args_at, brace_at, refused, token_at};
+use crate::equality::terms_at;
 use crate::file::{Arg, Command, File};
 use crate::lexer::{Lexeme, Lexer};
-use crate::limits::{MOST_BYTES, MOST_COMMANDS};
+use crate::limits::{MOST_BRACES, MOST_BYTES, MOST_COMMANDS};
+use crate::parameters::{parameters_of, points_of};
 use crate::refusal::{GclFault, Kind};
-use crate::table::{head_of, parameters_of, statement_of};
-use crate::word::{Head, Parameter, Statement, Word};
+use crate::table::{claim_of, head_of};
+use crate::word::{Claim, Head, Statement, Word};
 use fixed_point::Row;
 use std::alloc::Global;
 
-/// The next tokens, one for each parameter.
-fn args_at(
-    alloc: Global,
-    parameters: &[Parameter],
-    lexer: &mut Lexer<'_>,
-) -> Result<Vec<Arg>, GclFault>
-    ensures { Gives (λ v. (v.items, ahead lexer.new)) result
-        (args_at parameters.now (ahead lexer.old)) }
-{
-    let mut args = Vec::new(alloc);
-    let mut rest = parameters;
-    while let [parameter, after @ ..] = rest {
-        let arg = arg_at(*parameter, lexer)?;
-        args.push(arg)?;
-        rest = after;
-    }
-    Ok(args)
-}
-
-/// The next token, which is the brace.
-#[tactic(auto, unfolding(crate::specs::Grammar::brace_at))]
-fn brace_at(brace: &[u8], lexer: &mut Lexer<'_>) -> Result<(), GclFault>
-    ensures { Gives (λ _. ahead lexer.new) result (brace_at brace.now (ahead lexer.old)) }
+/// The next token, which names what is to be proved.
+#[tactic(auto, unfolding(crate::specs::Grammar::claim_at))]
+fn claim_at(lexer: &mut Lexer<'_>) -> Result<Claim, GclFault>
+    ensures { Gives (λ c. (c, ahead lexer.new)) result (claim_at (ahead lexer.old)) }
 {
     let token = token_at(lexer)?;
-    if token.text == brace {
-        Ok(())
-    } else {
-        Err(GclFault::Refused(refused(Kind::WantsBrace, token)))
-    }
-}
-
-/// The next token, which names a statement.
-#[tactic(auto, unfolding(crate::specs::Grammar::statement_at))]
-fn statement_at(lexer: &mut Lexer<'_>) -> Result<Statement, GclFault>
-    ensures { Gives (λ s. (s, ahead lexer.new)) result (statement_at (ahead lexer.old)) }
-{
-    let token = token_at(lexer)?;
-    match statement_of(token.text) {
-        Some(statement) => Ok(statement),
+    match claim_of(token.text)? {
+        Some(claim) => Ok(claim),
         None => Err(GclFault::Refused(refused(Kind::UnknownStatement, token))),
     }
 }
 
-/// The whole word of a command: that of a proof has its statement behind a brace.
-#[tactic(auto, unfolding(crate::specs::Grammar::word_at))]
-fn word_at(head: Head, lexer: &mut Lexer<'_>) -> Result<Word, GclFault>
-    ensures { Gives (λ w. (w, ahead lexer.new)) result (word_at head (ahead lexer.old)) }
+/// What a command says behind its first token: its word, and its arguments.
+#[derive(Drop)]
+struct Said {
+    word: Word,
+    args: Row<Arg>,
+}
+
+/// The statement that is named so: over the points behind its name, or of the terms there.
+#[tactic(auto, unfolding(crate::specs::Grammar::claimed_at))]
+fn claimed_at(alloc: Global, claim: Claim, lexer: &mut Lexer<'_>) -> Result<Said, GclFault>
+    ensures { Gives (λ s. ((s.word, s.args), ahead lexer.new)) result
+        (claimed_at MOST_BRACES claim (ahead lexer.old)) }
 {
-    match head {
-        Head::Word(word) => Ok(word),
-        Head::Prove => {
-            brace_at(b"{", lexer)?;
-            let statement = statement_at(lexer)?;
-            Ok(Word::Prove(statement))
+    match claim {
+        Claim::Points(statement) => {
+            let parameters = points_of(alloc, &statement)?;
+            let args = args_at(alloc, parameters.as_slice(), lexer)?;
+            Ok(Said {
+                word: Word::Prove(statement),
+                args: Row::from_vec(args),
+            })
+        }
+        Claim::Equal => {
+            let terms = terms_at(alloc, MOST_BRACES, lexer)?;
+            Ok(Said {
+                word: Word::Prove(Statement::Equal(terms.parts)),
+                args: terms.args,
+            })
         }
     }
 }
 
-/// The brace that ends a command, where it wants one.
-#[tactic(auto, unfolding(crate::specs::Grammar::close_at))]
-fn close_at(head: Head, lexer: &mut Lexer<'_>) -> Result<(), GclFault>
-    ensures { Gives (λ _. ahead lexer.new) result (close_at head (ahead lexer.old)) }
+/// What stands behind the first token of a command: the arguments of its word; or the braces of a proof.
+#[tactic(auto, unfolding(crate::specs::Grammar::said_at))]
+fn said_at(alloc: Global, head: Head, lexer: &mut Lexer<'_>) -> Result<Said, GclFault>
+    ensures { Gives (λ s. ((s.word, s.args), ahead lexer.new)) result
+        (said_at MOST_BRACES head (ahead lexer.old)) }
 {
     match head {
-        Head::Word(_) => Ok(()),
-        Head::Prove => brace_at(b"}", lexer),
+        Head::Word(word) => {
+            let parameters = parameters_of(alloc, &word)?;
+            let args = args_at(alloc, parameters.as_slice(), lexer)?;
+            Ok(Said {
+                word,
+                args: Row::from_vec(args),
+            })
+        }
+        Head::Prove => {
+            brace_at(b"{", lexer)?;
+            let claim = claim_at(lexer)?;
+            let said = claimed_at(alloc, claim, lexer)?;
+            brace_at(b"}", lexer)?;
+            Ok(said)
+        }
     }
 }
 
@@ -97,17 +97,15 @@ fn command_at(
     lexer: &mut Lexer<'_>,
 ) -> Result<Command, GclFault>
     ensures { Gives (λ c. (c, ahead lexer.new)) result
-        (command_at (token_of token.entry) head (ahead lexer.old)) }
+        (command_at MOST_BRACES (token_of token.entry) head (ahead lexer.old)) }
 {
-    let word = word_at(head, lexer)?;
-    let args = args_at(alloc, parameters_of(&word), lexer)?;
-    close_at(head, lexer)?;
+    let said = said_at(alloc, head, lexer)?;
     Ok(Command {
-        word,
+        word: said.word,
         line: token.line,
         at: token.at,
         len: token.text.len() as u32,
-        args: Row::from_vec(args),
+        args: said.args,
     })
 }
 
@@ -122,7 +120,7 @@ fn first_at<'a>(lexer: &mut Lexer<'a>) -> Result<Option<(Lexeme<'a>, Head)>, Gcl
     if token.text.is_empty() {
         return Err(GclFault::Refused(refused(Kind::NotText, token)));
     }
-    match head_of(token.text) {
+    match head_of(token.text)? {
         Some(head) => Ok(Some((token, head))),
         None => Err(GclFault::Refused(refused(Kind::UnknownCommand, token))),
     }
@@ -130,7 +128,7 @@ fn first_at<'a>(lexer: &mut Lexer<'a>) -> Result<Option<(Lexeme<'a>, Head)>, Gcl
 
 /// The commands up to the end of the file.
 fn commands_at(alloc: Global, lexer: &mut Lexer<'_>) -> Result<Vec<Command>, GclFault>
-    ensures { Gives (λ v. v.items) result (commands_at MOST_COMMANDS (ahead lexer.old)) }
+    ensures { Gives (λ v. v.items) result (commands_at MOST_BRACES MOST_COMMANDS (ahead lexer.old)) }
 {
     let mut commands = Vec::new(alloc);
     loop {

@@ -4,8 +4,8 @@ ghost use Rattle.gcl_reader.specs.declared.refusal.GclFault.TheVariants.{OutOfMe
 use std::alloc::{AllocError, AllocFailed};
 use thiserror::Error;
 
-/// Why a file is refused. The reader has the first nine, and the last where it reads a figure; the other kinds belong to the
-/// stages behind it.
+/// Why a file is refused. The reader has the first nine, `TooDeep`, and the last where it reads a figure; the other kinds
+/// belong to the stages behind it.
 #[derive(Clone, Copy, Debug, PartialEq, Eq)]
 pub enum Kind {
     /// A byte outside comments is neither a blank nor a visible ASCII character.
@@ -44,6 +44,12 @@ pub enum Kind {
     SamePoints,
     /// A point lies too far out.
     OutOfRange,
+    /// The second end of the segment by which a ratio divides is its first.
+    SameEnds,
+    /// A brace of a term opens in too many others.
+    TooDeep,
+    /// The conclusion of an equality passes a limit of polynomials while it is formed.
+    ConclusionLimit,
     /// A token of a figure of whole numbers is neither the name nor the whole number of its place, or is missing.
     BadFigure,
 }

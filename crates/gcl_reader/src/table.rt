@@ -1,10 +1,12 @@
-ghost use Rattle.std.specs.Prelude.{◌≡◌, List, ℕ};
-ghost use Rattle.gcl_reader.specs.Table.{named, heads, statements, head_text, statement_text, head_of, statement_of, parameters_of, points_of, text_of};
+ghost use Rattle.std.specs.Prelude.{◌≡◌, List, ℕ, option_copied, IfOk};
+ghost use Rattle.gcl_reader.specs.Table.{named, heads, claims, part_words, head_text, statement_text, claim_text, part_text, head_of, claim_of, part_named, text_of};
 
-use crate::word::{Head, Parameter, Range, Side, Statement, Word};
+use crate::word::{Claim, Head, Side, Statement, Word};
+use ratio_terms::Part;
+use std::alloc::AllocError;
 
 /// What has a spelling of its own in the language.
-pub trait Written: Copy {
+pub trait Written {
     ghost written: { Self → List ℕ };
 
     fn text(&self) -> &'static [u8]
@@ -22,18 +24,44 @@ impl Written for Head {
     }
 }
 
-impl Written for Statement {
-    ghost written = { statement_text };
+impl Written for Claim {
+    ghost written = { claim_text };
 
     fn text(&self) -> &'static [u8] {
         match self {
-            Statement::Identical => b"identical",
-            Statement::Collinear => b"collinear",
-            Statement::Perpendicular => b"perpendicular",
-            Statement::Parallel => b"parallel",
-            Statement::Midpoint => b"midpoint",
-            Statement::SameLength => b"same_length",
+            Claim::Points(statement) => statement_text(statement),
+            Claim::Equal => b"equal",
         }
+    }
+}
+
+impl Written for Part {
+    ghost written = { part_text };
+
+    fn text(&self) -> &'static [u8] {
+        match self {
+            Part::Whole(_) => b"",
+            Part::Area3 => b"signed_area3",
+            Part::Pyth3 => b"pythagoras_difference3",
+            Part::Sratio => b"sratio",
+            Part::Sum => b"sum",
+            Part::Mult => b"mult",
+        }
+    }
+}
+
+/// How a statement is written.
+pub fn statement_text(statement: &Statement) -> &'static [u8]
+    ensures { result.now ≡ statement_text statement.now }
+{
+    match statement {
+        Statement::Identical => b"identical",
+        Statement::Collinear => b"collinear",
+        Statement::Perpendicular => b"perpendicular",
+        Statement::Parallel => b"parallel",
+        Statement::Midpoint => b"midpoint",
+        Statement::SameLength => b"same_length",
+        Statement::Equal(_) => b"equal",
     }
 }
 
@@ -108,77 +136,96 @@ fn mark_text(side: Side) -> &'static [u8]
 }
 
 /// What the first token of a command can begin.
-fn heads() -> &'static [Head]
-    ensures { result.now ≡ heads }
+const HEADS: [Head; 43] = [
+    Head::Word(Word::Dim),
+    Head::Word(Word::Color),
+    Head::Word(Word::Prooflevel),
+    Head::Word(Word::Prooflimit),
+    Head::Word(Word::ProverTimeout),
+    Head::Word(Word::Point),
+    Head::Word(Word::Line),
+    Head::Word(Word::Circle),
+    Head::Word(Word::Intersec),
+    Head::Word(Word::Intersec2),
+    Head::Word(Word::Midpoint),
+    Head::Word(Word::Med),
+    Head::Word(Word::Perp),
+    Head::Word(Word::Parallel),
+    Head::Word(Word::Foot),
+    Head::Word(Word::Online),
+    Head::Word(Word::Oncircle),
+    Head::Word(Word::Translate),
+    Head::Word(Word::Towards),
+    Head::Word(Word::Drawpoint),
+    Head::Word(Word::Drawsegment),
+    Head::Word(Word::Drawdashsegment),
+    Head::Word(Word::Drawline),
+    Head::Word(Word::Drawcircle),
+    Head::Word(Word::Cmark),
+    Head::Word(Word::CmarkAt(Side::L)),
+    Head::Word(Word::CmarkAt(Side::R)),
+    Head::Word(Word::CmarkAt(Side::T)),
+    Head::Word(Word::CmarkAt(Side::B)),
+    Head::Word(Word::CmarkAt(Side::Lt)),
+    Head::Word(Word::CmarkAt(Side::Lb)),
+    Head::Word(Word::CmarkAt(Side::Rt)),
+    Head::Word(Word::CmarkAt(Side::Rb)),
+    Head::Word(Word::Mark(Side::Centre)),
+    Head::Word(Word::Mark(Side::L)),
+    Head::Word(Word::Mark(Side::R)),
+    Head::Word(Word::Mark(Side::T)),
+    Head::Word(Word::Mark(Side::B)),
+    Head::Word(Word::Mark(Side::Lt)),
+    Head::Word(Word::Mark(Side::Lb)),
+    Head::Word(Word::Mark(Side::Rt)),
+    Head::Word(Word::Mark(Side::Rb)),
+    Head::Prove,
+];
+
+fn heads() -> [Head; 43]
+    ensures { result ≡ heads }
 {
-    &[
-        Head::Word(Word::Dim),
-        Head::Word(Word::Color),
-        Head::Word(Word::Prooflevel),
-        Head::Word(Word::Prooflimit),
-        Head::Word(Word::ProverTimeout),
-        Head::Word(Word::Point),
-        Head::Word(Word::Line),
-        Head::Word(Word::Circle),
-        Head::Word(Word::Intersec),
-        Head::Word(Word::Intersec2),
-        Head::Word(Word::Midpoint),
-        Head::Word(Word::Med),
-        Head::Word(Word::Perp),
-        Head::Word(Word::Parallel),
-        Head::Word(Word::Foot),
-        Head::Word(Word::Online),
-        Head::Word(Word::Oncircle),
-        Head::Word(Word::Translate),
-        Head::Word(Word::Towards),
-        Head::Word(Word::Drawpoint),
-        Head::Word(Word::Drawsegment),
-        Head::Word(Word::Drawdashsegment),
-        Head::Word(Word::Drawline),
-        Head::Word(Word::Drawcircle),
-        Head::Word(Word::Cmark),
-        Head::Word(Word::CmarkAt(Side::L)),
-        Head::Word(Word::CmarkAt(Side::R)),
-        Head::Word(Word::CmarkAt(Side::T)),
-        Head::Word(Word::CmarkAt(Side::B)),
-        Head::Word(Word::CmarkAt(Side::Lt)),
-        Head::Word(Word::CmarkAt(Side::Lb)),
-        Head::Word(Word::CmarkAt(Side::Rt)),
-        Head::Word(Word::CmarkAt(Side::Rb)),
-        Head::Word(Word::Mark(Side::Centre)),
-        Head::Word(Word::Mark(Side::L)),
-        Head::Word(Word::Mark(Side::R)),
-        Head::Word(Word::Mark(Side::T)),
-        Head::Word(Word::Mark(Side::B)),
-        Head::Word(Word::Mark(Side::Lt)),
-        Head::Word(Word::Mark(Side::Lb)),
-        Head::Word(Word::Mark(Side::Rt)),
-        Head::Word(Word::Mark(Side::Rb)),
-        Head::Prove,
-    ]
+    HEADS
 }
 
-fn statements() -> &'static [Statement]
-    ensures { result.now ≡ statements }
+/// What the first token in the braces of a proof can name.
+const CLAIMS: [Claim; 7] = [
+    Claim::Points(Statement::Identical),
+    Claim::Points(Statement::Collinear),
+    Claim::Points(Statement::Perpendicular),
+    Claim::Points(Statement::Parallel),
+    Claim::Points(Statement::Midpoint),
+    Claim::Points(Statement::SameLength),
+    Claim::Equal,
+];
+
+fn claims() -> [Claim; 7]
+    ensures { result ≡ claims }
+{
+    CLAIMS
+}
+
+/// The parts of terms that have a word.
+fn part_words() -> &'static [Part]
+    ensures { result.now ≡ part_words }
 {
     &[
-        Statement::Identical,
-        Statement::Collinear,
-        Statement::Perpendicular,
-        Statement::Parallel,
-        Statement::Midpoint,
-        Statement::SameLength,
+        Part::Area3,
+        Part::Pyth3,
+        Part::Sratio,
+        Part::Sum,
+        Part::Mult,
     ]
 }
 
 /// The first of the candidates that is written as the text.
-fn named<X: Written>(candidates: &[X], text: &[u8]) -> Option<X>
-    ensures { result ≡ named X.written candidates.now text.now }
+fn named<'a, X: Written>(candidates: &'a [X], text: &[u8]) -> Option<&'a X>
+    ensures { option_copied result ≡ named X.written candidates.now text.now }
 {
     let mut rest = candidates;
     while let [candidate, after @ ..] = rest {
         if text == candidate.text() {
-            return Some(*candidate);
+            return Some(candidate);
         }
         rest = after;
     }
@@ -187,107 +234,32 @@ fn named<X: Written>(candidates: &[X], text: &[u8]) -> Option<X>
 
 /// What a command's first token begins.
 #[tactic(auto, unfolding(crate::specs::Table::head_of))]
-pub fn head_of(text: &[u8]) -> Option<Head>
-    ensures { result ≡ head_of text.now }
+pub fn head_of(text: &[u8]) -> Result<Option<Head>, AllocError>
+    ensures { IfOk result (λ h. h ≡ head_of text.now) }
 {
-    named(heads(), text)
-}
-
-/// The statement that a token names.
-#[tactic(auto, unfolding(crate::specs::Table::statement_of))]
-pub fn statement_of(text: &[u8]) -> Option<Statement>
-    ensures { result ≡ statement_of text.now }
-{
-    named(statements(), text)
-}
-
-/// The parameters of a word.
-pub fn parameters_of(word: &Word) -> &'static [Parameter]
-    ensures { result.now ≡ parameters_of word.now }
-{
-    match word {
-        Word::Dim => &[
-            Parameter::Number(Range::Picture),
-            Parameter::Number(Range::Picture),
-        ],
-        Word::Color => &[
-            Parameter::Number(Range::Byte),
-            Parameter::Number(Range::Byte),
-            Parameter::Number(Range::Byte),
-        ],
-        Word::Prooflevel => &[Parameter::Number(Range::Any)],
-        Word::Prooflimit => &[Parameter::Number(Range::Any)],
-        Word::ProverTimeout => &[Parameter::Number(Range::Any)],
-        Word::Point => &[
-            Parameter::NewPoint,
-            Parameter::Number(Range::Any),
-            Parameter::Number(Range::Any),
-        ],
-        Word::Line => &[Parameter::NewLine, Parameter::Point, Parameter::Point],
-        Word::Circle => &[Parameter::NewCircle, Parameter::Point, Parameter::Point],
-        Word::Intersec => &[Parameter::NewPoint, Parameter::Line, Parameter::Line],
-        Word::Intersec2 => &[
-            Parameter::NewPoint,
-            Parameter::NewPoint,
-            Parameter::Curve,
-            Parameter::OtherCurve,
-        ],
-        Word::Midpoint => &[Parameter::NewPoint, Parameter::Point, Parameter::Point],
-        Word::Med => &[Parameter::NewLine, Parameter::Point, Parameter::Point],
-        Word::Perp => &[Parameter::NewLine, Parameter::Point, Parameter::Line],
-        Word::Parallel => &[Parameter::NewLine, Parameter::Point, Parameter::Line],
-        Word::Foot => &[Parameter::NewPoint, Parameter::Point, Parameter::Line],
-        Word::Online => &[Parameter::NewPoint, Parameter::Point, Parameter::Point],
-        Word::Oncircle => &[Parameter::NewPoint, Parameter::Point, Parameter::Point],
-        Word::Translate => &[
-            Parameter::NewPoint,
-            Parameter::Point,
-            Parameter::Point,
-            Parameter::Point,
-        ],
-        Word::Towards => &[
-            Parameter::NewPoint,
-            Parameter::Point,
-            Parameter::Point,
-            Parameter::Number(Range::Any),
-        ],
-        Word::Drawpoint => &[Parameter::Point],
-        Word::Drawsegment => &[Parameter::Point, Parameter::Point],
-        Word::Drawdashsegment => &[Parameter::Point, Parameter::Point],
-        Word::Drawline => &[Parameter::Line],
-        Word::Drawcircle => &[Parameter::Circle],
-        Word::Cmark => &[Parameter::Point],
-        Word::CmarkAt(_) => &[Parameter::Point],
-        Word::Mark(_) => &[Parameter::Point],
-        Word::Prove(statement) => points_of(statement),
+    let heads = heads();
+    match named(&heads, text) {
+        Some(head) => Ok(Some(head.clone()?)),
+        None => Ok(None),
     }
 }
 
-/// What stands behind a statement.
-fn points_of(statement: &Statement) -> &'static [Parameter]
-    ensures { result.now ≡ points_of statement.now }
+/// What a token names as the first in the braces of a proof.
+#[tactic(auto, unfolding(crate::specs::Table::claim_of))]
+pub fn claim_of(text: &[u8]) -> Result<Option<Claim>, AllocError>
+    ensures { IfOk result (λ c. c ≡ claim_of text.now) }
 {
-    match statement {
-        Statement::Identical => &[Parameter::Point, Parameter::Point],
-        Statement::Collinear => &[Parameter::Point, Parameter::Point, Parameter::Point],
-        Statement::Perpendicular => &[
-            Parameter::Point,
-            Parameter::Point,
-            Parameter::Point,
-            Parameter::Point,
-        ],
-        Statement::Parallel => &[
-            Parameter::Point,
-            Parameter::Point,
-            Parameter::Point,
-            Parameter::Point,
-        ],
-        Statement::Midpoint => &[Parameter::Point, Parameter::Point, Parameter::Point],
-        Statement::SameLength => &[
-            Parameter::Point,
-            Parameter::Point,
-            Parameter::Point,
-            Parameter::Point,
-        ],
+    let claims = claims();
+    match named(&claims, text) {
+        Some(claim) => Ok(Some(claim.clone()?)),
+        None => Ok(None),
     }
+}
+
+/// The part of a term that a token names.
+#[tactic(auto, unfolding(crate::specs::Table::part_named))]
+pub fn part_named(text: &[u8]) -> Option<Part>
+    ensures { result ≡ part_named text.now }
+{
+    named(part_words(), text).copied()
 }

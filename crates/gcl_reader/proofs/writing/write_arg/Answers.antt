@@ -1,7 +1,7 @@
 use Rattle.std.proofs.Common.{codes, refl}
 use Rattle.desk_io.proofs.Writing.{first_failed, last_writes}
 use Rattle.gcl_reader.specs.Show.{value_text}
-use Rattle.gcl_reader.proofs.showing.write_arg.Goals as goal
+use Rattle.gcl_reader.proofs.writing.write_arg.Goals as goal
 
 pub returns-in_err-push-clause-bytes : goal.returns-in_err-push-clause-bytes
 returns-in_err-push-clause-bytes g c =

@@ -2,7 +2,7 @@ use Rattle.std.proofs.Common.{◌≤◌, take}
 use Rattle.std.specs.Prelude.{flat_map}
 use Rattle.desk_io.specs.Bytes.{Grew}
 use Rattle.gcl_reader.specs.Show.{arg_text}
-use Rattle.gcl_reader.proofs.showing.write_args.Given as goal
+use Rattle.gcl_reader.proofs.writing.write_args.Given as goal
 
 abbrev pub invariant-loop-arg : goal.invariant-loop-arg
 invariant-loop-arg g l = record {

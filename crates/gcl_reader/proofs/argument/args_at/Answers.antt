@@ -3,7 +3,7 @@ use Rattle.std.proofs.lemmas.Result.{err_from_is_err_and}
 use Rattle.gcl_reader.specs.Ahead.{ahead}
 use Rattle.gcl_reader.specs.Grammar.{args_at}
 use Rattle.gcl_reader.proofs.Front.{args-more, args-fail, args-done}
-use Rattle.gcl_reader.proofs.reading.args_at.Goals as goal
+use Rattle.gcl_reader.proofs.argument.args_at.Goals as goal
 
 pub returns-in_err-arg : goal.returns-in_err-arg
 returns-in_err-arg c =

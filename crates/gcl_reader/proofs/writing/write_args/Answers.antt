@@ -5,7 +5,7 @@ use Rattle.desk_io.proofs.Writing.{next_failed}
 use Rattle.gcl_reader.specs.Show.{arg_text}
 use Rattle.gcl_reader.specs.declared.file.Arg.{Arg}
 use Rattle.gcl_reader.proofs.Pieces.{item-more, item-split}
-use Rattle.gcl_reader.proofs.showing.write_args.Goals as goal
+use Rattle.gcl_reader.proofs.writing.write_args.Goals as goal
 
 pub returns-in_err-write_arg-clause-bytes : goal.returns-in_err-write_arg-clause-bytes
 returns-in_err-write_arg-clause-bytes g c =
