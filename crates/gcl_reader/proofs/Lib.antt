@@ -9,6 +9,8 @@ pub mod Spelled
 pub mod SpelledTerms
 pub mod SpelledCommands
 pub mod ReadAgain
+pub mod ReadTerms
+pub mod ReadCommands
 pub mod Lines
 pub mod ShownAgain
 pub mod Pieces
