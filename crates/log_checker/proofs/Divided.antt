@@ -1,18 +1,21 @@
 -- What divides out of an equation, on which variable a node is parted, and which condition an equation reduces to 0.
 use Rattle.std.proofs.Common.{◌≡◌, ◌≢◌, ℕ, ◌-◌, ◌<◌, ◌≤◌, List, [], ◌∷◌, length, refl, sym, ◌∙◌, ap, arith, Bool, true, false, ◌&&◌, not}
 use Rattle.std.specs.Prelude.{◌==◌, Option, Some, None, is_none, is_some, nat_lt, unwrap_or, if◌then◌else◌}
-use Rattle.std.proofs.lemmas.Bool.{and_parts, and_from, not_from_false, eqb-true, eq-eqb}
-use Rattle.poly_model.specs.Polynomial.{Polynomial}
-use Rattle.poly_model.specs.Powers.{has_factor, is_divided, is_factor, one_monomial, shares_variable, variable_in, without_variables}
+use Rattle.std.proofs.lemmas.Bool.{and_parts, and_from, not_from_false, eqb-true, eq-eqb, ne_eqb, lt-ltb}
+use mathlib.Core.Bool.{and-true}
+use Rattle.poly_model.specs.Polynomial.{Polynomial, poly_variable}
+use Rattle.poly_model.specs.Powers.{has_factor, is_divided, is_factor, is_variable, one_monomial, shares_variable, variable_in, without_variables}
 use Rattle.poly_model.specs.Reduction.{class_of, is_constant, is_zero, main_place, reaches, reduction_of, same}
+use Rattle.poly_model.specs.Standard.{is_standard}
+use Rattle.poly_model.proofs.Within.{within-of}
 use Rattle.proof_steps.specs.Numbers.{item, has}
 use Rattle.proof_steps.specs.Rules.{has_known_initial, has_second, is_valid, is_void, least_factor, least_variable, reduction_limit}
 use Rattle.proof_steps.specs.Trees.{may_factor}
 use Rattle.proof_steps.specs.declared.piece.Node.{Node}
 use Rattle.proof_steps.specs.declared.step.Attempt.TheVariants as attempt
 use Rattle.proof_steps.proofs.Factors.{least-has}
-use Rattle.workbench.specs.Known.{cancels_in, factor_number}
-use Rattle.workbench.proofs.Tried.{one-term}
+use Rattle.workbench.specs.Known.{cancels_in, factor_number, variable_number}
+use Rattle.workbench.proofs.Tried.{factored, one-term}
 use Rattle.log_checker.specs.Trials.{IsCancelPair, IsLeastFactor, leaves_nothing, may_reduce}
 
 -- ---- cancel
@@ -52,6 +55,43 @@ cancel-last true true true d e = e
 pub cancel-has : (version : ℕ) (n : Node) (g q : ℕ) → is_valid version n (attempt.Cancel g q) ≡ true → has n.eqs g ≡ true
 cancel-has version n g q v =
     (and_parts (has n.eqs g) (has n.nes q) (and_parts (has_second version) _ (and_parts (has_second version && (has n.eqs g && has n.nes q)) _ v).0).1).0
+
+-- ---- a variable that divides
+same-variable : (p v : Polynomial) (i : ℕ) → is_standard p ≡ true → is_standard v ≡ true → p ≢ [] → v ≢ [] → variable_in p i ≡ variable_in v i
+same-variable [] v i sp sv np nv = absurd (np refl)
+same-variable (x ∷ p) [] i sp sv np nv = absurd (nv refl)
+same-variable ((es, c) ∷ p) ((fs, d) ∷ v) i sp sv np nv =
+    ap (λ n. poly_variable n i) ((within-of ((es, c) ∷ p) sp).descending.0 ∙ sym (within-of ((fs, d) ∷ v) sv).descending.0)
+
+factor-variable : (p v : Polynomial) → is_standard p ≡ true → is_standard v ≡ true → has_factor p v ≡ true → is_variable v ≡ true
+factor-variable p v sp sv h =
+    let f = factored p v h in
+    let low = f.low in
+    let some : not (is_constant v) ≡ true = not_from_false (is_constant v) (ne_eqb (class_of v) 0 (λ z. omega (arith, low, z))) in
+    let other = same-variable p v (main_place v) sp sv f.some (λ e. (let z : class_of v ≡ 0 = ap class_of e in omega (arith, low, z))) in
+    and_from (not (is_constant v)) (same v (variable_in v (main_place v))) some (sym (ap (same v) other) ∙ (and_parts (is_factor p (class_of v)) (same v (variable_in p (main_place v))) h).1)
+
+pub not-factor : (p v : Polynomial) → is_standard p ≡ true → is_standard v ≡ true → variable_number v ≡ 0 → false ≡ has_factor p v
+not-factor p v sp sv none = by (has_factor p v) refl
+  where
+    by : (b : Bool) → has_factor p v ≡ b → false ≡ b
+    by false e = refl
+    by true e =
+        let low = (factored p v e).low in
+        let is = ap (λ b. if b then class_of v else 0) (factor-variable p v sp sv e) in
+        absurd (omega (arith, low, is, none))
+
+pub variable-factor : (p v : Polynomial) → is_standard p ≡ true → is_standard v ≡ true → (variable_number v ≡ 0 → ⊥) → class_of v < class_of p → is_divided (main_place v) p ≡ has_factor p v
+variable-factor p v sp sv some below = by (is_variable v) refl
+  where
+    by : (b : Bool) → is_variable v ≡ b → is_divided (main_place v) p ≡ has_factor p v
+    by false e = absurd (some (ap (λ b. if b then class_of v else 0) e))
+    by true e =
+        let parts = and_parts (not (is_constant v)) (same v (variable_in v (main_place v))) e in
+        let nv : v ≢ [] = λ z. (let h : false ≡ true = sym (ap (λ q. not (is_constant q)) z) ∙ parts.0 in cc) in
+        let np : p ≢ [] = λ z. (let h : class_of p ≡ 0 = ap class_of z in omega (arith, h, below)) in
+        let told : same v (variable_in p (main_place v)) ≡ true = ap (same v) (same-variable p v (main_place v) sp sv np nv) ∙ parts.1 in
+        sym ((λ i. (lt-ltb (class_of v) (class_of p) below i && is_divided (main_place v) p) && told i) ∙ and-true (is_divided (main_place v) p))
 
 -- ---- factor
 pub no-factor : (a b c d : Bool) → (b && c) ≡ false → false ≡ ((a && b) && (c && d))
