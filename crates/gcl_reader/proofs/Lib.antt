@@ -14,5 +14,6 @@ pub mod ReadCommands
 pub mod Lines
 pub mod ShownAgain
 pub mod Pieces
+pub mod WritingTerms
 pub mod Stand
 pub mod Places

@@ -25,10 +25,6 @@ value_text (what.Number n) = number_text MOST_DECIMALS n
 abbrev pub arg_text : Arg → List ℕ
 arg_text a = codes " " ++ value_text a.what
 
--- A word and what stands behind it, in braces.
-abbrev pub in_braces : List ℕ → List ℕ → List ℕ
-in_braces name rest = codes " { " ++ name ++ rest ++ codes " }"
-
 -- The word of a part, or its whole number.
 abbrev pub part_name : Part → List ℕ
 part_name (part.Whole k) = decimal k
@@ -38,14 +34,25 @@ part_name part.Sratio = part_text part.Sratio
 part_name part.Sum = part_text part.Sum
 part_name part.Mult = part_text part.Mult
 
--- A term stands in braces: its word, and its arguments or operands. A whole number has its digits.
+-- The brace of a term, and the word of its part.
+abbrev pub opened_text : Part → List ℕ
+opened_text p = codes " { " ++ part_name p
+
+-- A part without operands stands in braces, before its arguments. A whole number has its digits.
+abbrev pub leaf_text : Part → List Arg → List ℕ
+leaf_text p args = opened_text p ++ flat_map arg_text args ++ codes " }"
+
+-- A part with two operands stands in braces, before their texts.
+abbrev pub pair_text : Part → List ℕ → List ℕ → List ℕ
+pair_text p s t = opened_text p ++ (s ++ t) ++ codes " }"
+
 abbrev pub term_text : Term Arg → List ℕ
-term_text (Whole k) = in_braces (part_name (part.Whole k)) []
-term_text (Area a b c) = in_braces (part_name part.Area3) (flat_map arg_text (a ∷ b ∷ c ∷ []))
-term_text (Pythagoras a b c) = in_braces (part_name part.Pyth3) (flat_map arg_text (a ∷ b ∷ c ∷ []))
-term_text (Ratio a b c d) = in_braces (part_name part.Sratio) (flat_map arg_text (a ∷ b ∷ c ∷ d ∷ []))
-term_text (Sum s t) = in_braces (part_name part.Sum) (term_text s ++ term_text t)
-term_text (Product s t) = in_braces (part_name part.Mult) (term_text s ++ term_text t)
+term_text (Whole k) = leaf_text (part.Whole k) []
+term_text (Area a b c) = leaf_text part.Area3 (a ∷ b ∷ c ∷ [])
+term_text (Pythagoras a b c) = leaf_text part.Pyth3 (a ∷ b ∷ c ∷ [])
+term_text (Ratio a b c d) = leaf_text part.Sratio (a ∷ b ∷ c ∷ d ∷ [])
+term_text (Sum s t) = pair_text part.Sum (term_text s) (term_text t)
+term_text (Product s t) = pair_text part.Mult (term_text s) (term_text t)
 
 -- What stands behind the name of a statement: its points; or the terms of an equality.
 abbrev pub claim_rest : Statement → List Arg → List ℕ
@@ -55,7 +62,7 @@ claim_rest s args = flat_map arg_text args
 -- What stands behind a word: its arguments; for a proof its statement in braces.
 abbrev pub rest_text : Option Statement → List Arg → List ℕ
 rest_text None args = flat_map arg_text args
-rest_text (Some s) args = in_braces (statement_text s) (claim_rest s args)
+rest_text (Some s) args = codes " { " ++ statement_text s ++ claim_rest s args ++ codes " }"
 
 -- An equality can be written where its parts are two terms, with arguments enough.
 abbrev pub IsShowable : Statement → List Arg → Type 0

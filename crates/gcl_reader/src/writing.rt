@@ -3,7 +3,7 @@ ghost use Rattle.desk_io.specs.Causes.{HasCause};
 ghost use Rattle.desk_io.specs.Bytes.{Writes};
 ghost use Rattle.ratio_terms.specs.Terms.{are_terms, first_of, names_in, names_of, operands_of, terms_of};
 ghost use Rattle.ratio_terms.specs.Taking.{AreWhole, TakesFirst};
-ghost use Rattle.gcl_reader.specs.Show.{value_text, arg_text, part_name, term_text};
+ghost use Rattle.gcl_reader.specs.Show.{value_text, arg_text, part_name, opened_text, leaf_text, term_text};
 
 use crate::file::{Arg, What};
 use crate::table::Written;
@@ -60,6 +60,32 @@ fn write_part<S: Sink>(part: Part, pen: &mut Pen, sink: &mut S) -> Result<(), Fa
     }
 }
 
+/// Writes the brace of a term, and the word of its part.
+fn open_part<S: Sink>(part: Part, pen: &mut Pen, sink: &mut S) -> Result<(), Failed>
+    ensures bytes { Writes (S.written sink.old) (S.written sink.new) pen.old pen.new result
+        (opened_text part) }
+    ensures cause { HasCause (S.faults sink.old) (S.faults sink.new) result }
+{
+    pen.push(sink, b" { ")?;
+    write_part(part, pen, sink)
+}
+
+/// Writes a term of a part without operands.
+fn write_leaf<S: Sink>(
+    part: Part,
+    args: &[Arg],
+    pen: &mut Pen,
+    sink: &mut S,
+) -> Result<(), Failed>
+    ensures bytes { Writes (S.written sink.old) (S.written sink.new) pen.old pen.new result
+        (leaf_text part args.now) }
+    ensures cause { HasCause (S.faults sink.old) (S.faults sink.new) result }
+{
+    open_part(part, pen, sink)?;
+    write_args(args, pen, sink)?;
+    pen.push(sink, b" }")
+}
+
 /// How many parts and arguments are those of a term.
 #[derive(Clone, Copy)]
 struct Extent {
@@ -91,16 +117,14 @@ fn write_term<S: Sink>(
     let Some((part, inner)) = parts.split_first() else {
         unreachable!()
     };
-    pen.push(sink, b" { ")?;
-    write_part(*part, pen, sink)?;
     if part.operands() == 0 {
-        write_args(&args[..part.names()], pen, sink)?;
-        pen.push(sink, b" }")?;
+        write_leaf(*part, &args[..part.names()], pen, sink)?;
         return Ok(Extent {
             parts: 1,
             args: part.names(),
         });
     }
+    open_part(*part, pen, sink)?;
     let first = write_term(inner, args, pen, sink)?;
     let second = write_term(
         behind(inner, first.parts),
