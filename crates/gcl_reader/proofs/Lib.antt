@@ -12,8 +12,10 @@ pub mod ReadAgain
 pub mod ReadTerms
 pub mod ReadCommands
 pub mod Lines
+pub mod ShownTerms
 pub mod ShownAgain
 pub mod Pieces
+pub mod Showable
 pub mod WritingTerms
 pub mod Stand
 pub mod Places

@@ -28,8 +28,9 @@ use Rattle.gcl_reader.specs.declared.file.What.{What}
 use Rattle.gcl_reader.specs.declared.file.What.TheVariants as what
 use Rattle.gcl_reader.specs.declared.file.Arg.{Arg}
 use Rattle.gcl_reader.proofs.Cut.{word_len-cons, word_len-stop, word-cut}
-use Rattle.gcl_reader.proofs.Spelled.{FitsArg}
-use Rattle.gcl_reader.proofs.ReadAgain.{number-is-text, name-is-text, text-not-empty, statement-is-text}
+use Rattle.gcl_reader.proofs.TermsFit.{FitsArg}
+use Rattle.gcl_reader.proofs.ReadAgain.{number-is-text, name-is-text}
+use Rattle.gcl_reader.proofs.ReadCommands.{text-not-empty, statement-is-text}
 
 -- the bytes go on with one that ends a word
 abbrev pub IsCut : List ℕ → Type 0
@@ -93,7 +94,7 @@ line-passed line at bytes = refl
 
 -- Texts of the table, of names and of numbers are tokens.
 
-off-if : (text : List ℕ) → (length text == 0) ≡ false → list_all is_word text ≡ true → CutsOff text
+pub off-if : (text : List ℕ) → (length text == 0) ≡ false → list_all is_word text ≡ true → CutsOff text
 off-if [] some all = cc
 off-if (b ∷ bs) some all = word-off b bs all
 
@@ -122,11 +123,11 @@ letter-word : (b : ℕ) → is_letter b ≡ true → is_word b ≡ true
 unfolding is_word is_brace
 letter-word b h = grind (arith, nat_tests)
 
-digit-word : (b : ℕ) → is_digit b ≡ true → is_word b ≡ true
+pub digit-word : (b : ℕ) → is_digit b ≡ true → is_word b ≡ true
 unfolding is_word is_brace
 digit-word b h = grind (arith, nat_tests)
 
-all-as : (p q : ℕ → Bool) → ((b : ℕ) → p b ≡ true → q b ≡ true) → (bs : List ℕ) → list_all p bs ≡ true → list_all q bs ≡ true
+pub all-as : (p q : ℕ → Bool) → ((b : ℕ) → p b ≡ true → q b ≡ true) → (bs : List ℕ) → list_all p bs ≡ true → list_all q bs ≡ true
 all-as p q f [] h = refl
 all-as p q f (b ∷ bs) h = let parts = and_parts (p b) (list_all p bs) h in rw (f b parts.0, all-as p q f bs parts.1) refl
 

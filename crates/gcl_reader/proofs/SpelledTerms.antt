@@ -189,12 +189,12 @@ operands-taken deep part.Pyth3 t names args x r y taken says said fits h = leaf-
 operands-taken deep part.Sratio t names args x r y taken says said fits h = leaf-taken deep part.Sratio t names args x r y tt says said fits h
 operands-taken deep part.Sum t [] [] x r y taken says said fits h =
     pair-taken deep part.Sum t x r y taken (λ q s first second. pair-in deep Sum part.Sum q s t first second
-        (λ _ _. refl) (λ _ _. refl) (λ _ _. refl) (λ _ _ f g. (f, g)) (λ _ _ f g. (t, first, second, refl, says, f, g))) h
+    (λ _ _. refl) (λ _ _. refl) (λ _ _. refl) (λ _ _ f g. (f, g)) (λ _ _ f g. (t, first, second, refl, says, f, g))) h
 operands-taken deep part.Sum t (n ∷ names) [] x r y taken says said fits h = absurd said
 operands-taken deep part.Sum t names (a ∷ args) x r y taken says said fits h = absurd fits
 operands-taken deep part.Mult t [] [] x r y taken says said fits h =
     pair-taken deep part.Mult t x r y taken (λ q s first second. pair-in deep Product part.Mult q s t first second
-        (λ _ _. refl) (λ _ _. refl) (λ _ _. refl) (λ _ _ f g. (f, g)) (λ _ _ f g. (t, first, second, refl, says, f, g))) h
+    (λ _ _. refl) (λ _ _. refl) (λ _ _. refl) (λ _ _ f g. (f, g)) (λ _ _ f g. (t, first, second, refl, says, f, g))) h
 operands-taken deep part.Mult t (n ∷ names) [] x r y taken says said fits h = absurd said
 operands-taken deep part.Mult t names (a ∷ args) x r y taken says said fits h = absurd fits
 
@@ -271,8 +271,10 @@ terms-taken deep x r y h =
     let two = term-taken deep b.0.1 c.0.0 c.0.1 c.1 in
     let s = one.2 in
     let t = two.2 in
-    subst (λ (q : Terms × Lexed). TermsAhead deep x q.0 q.1) (ok-is c.2)
-    (one.0 ++ two.0, one.1 ∙ ap (puts one.0) two.1 ∙ behind-two one.0 two.0 c.0.1, record {
+    subst (λ (q : Terms × Lexed). TermsAhead deep x q.0 q.1) (ok-is c.2) (
+      one.0 ++ two.0,
+      one.1 ∙ ap (puts one.0) two.1 ∙ behind-two one.0 two.0 c.0.1,
+      record {
         first = s.term;
         second = t.term;
         left = one.0;
@@ -286,4 +288,5 @@ terms-taken deep x r y h =
         depth_second = t.depth;
         fits_first = s.fits;
         fits_second = t.fits;
-      })
+      },
+    )

@@ -1,10 +1,10 @@
 -- Fitting commands: those that some file can spell.
-use Rattle.std.specs.Prelude.{◌≤◌, ℕ, zero, suc, List, [], ◌∷◌, length, Bool, true, false, IsTrue, ℤ, unsigned_abs}
+use Rattle.std.specs.Prelude.{◌≤◌, ℕ, zero, suc, List, [], ◌∷◌, ◌++◌, length, Bool, true, false, IsTrue, ℤ, unsigned_abs}
 use Rattle.std.specs.List.{AllZip, AllByRecursion}
 use Rattle.gcl_reader.specs.Name.{is_name}
 use Rattle.gcl_reader.specs.Table.{parameters_of, in_range}
 use Rattle.fixed_point.specs.declared.limits.TheConstants.{MOST_MILLIONTHS}
-use Rattle.ratio_terms.specs.Terms.{are_terms}
+use Rattle.ratio_terms.specs.Terms.{Term, are_terms, parts_of, depth_of}
 use Rattle.ratio_terms.specs.declared.part.Part.{Part}
 use Rattle.ratio_terms.specs.declared.part.Part.TheVariants as part
 use Rattle.gcl_reader.specs.declared.limits.TheConstants.{MOST_BRACES, MOST_COMMANDS, MOST_WHOLE}
@@ -91,3 +91,9 @@ FitsTable c = FitsWithin MOST_BRACES c
 
 abbrev pub IsFitting : List Command → Type 0
 IsFitting commands = AreFitting MOST_BRACES commands
+
+-- The parts of two terms are so exactly where each term has at most so many braces open one in another.
+abbrev pub BracesAreOfTerms : Type 0
+BracesAreOfTerms = (s t : Term Arg) (deep : ℕ) →
+    (IsTrue (are_within (deep ∷ deep ∷ []) (parts_of s ++ parts_of t)) → (depth_of s ≤ deep) × (depth_of t ≤ deep))
+    × (depth_of s ≤ deep → depth_of t ≤ deep → IsTrue (are_within (deep ∷ deep ∷ []) (parts_of s ++ parts_of t)))

@@ -1,6 +1,7 @@
 ghost use Rattle.std.specs.Prelude.{◌≡◌, ◌++◌, IfOk};
 ghost use Rattle.fixed_point.specs.Decimal.{fix_of};
 ghost use Rattle.gcl_reader.specs.Ahead.{ahead, token_of};
+ghost use Rattle.gcl_reader.specs.Fitting.{BracesAreOfTerms};
 ghost use Rattle.gcl_reader.specs.Grammar.{Gives, whole_of, whole_in, part_at, part_or, leaf, over_two, too_deep, term_at, both, terms_at};
 
 use crate::argument::{args_at, brace_at, refused, token_at};
@@ -158,3 +159,8 @@ pub fn terms_at(alloc: Global, deep: u32, lexer: &mut Lexer<'_>) -> Result<Terms
     let terms = both(first, second)?;
     Ok(terms)
 }
+
+/// How many braces a list of parts has open one in another is as many as its terms have.
+pub fn braces_are_those_of_terms()
+    ensures { BracesAreOfTerms }
+{}

@@ -18,16 +18,18 @@ mod table;
 mod word;
 mod writing;
 
+pub use equality::braces_are_those_of_terms;
 pub use figure::read_figure;
 pub use file::{Arg, Command, File, What};
 pub use limits::{
-    LONGEST_NAME, MOST_BRACES, MOST_BYTE, MOST_BYTES, MOST_COMMANDS, MOST_COORDINATE, MOST_WHOLE, UNIT,
+    LONGEST_NAME, MOST_BRACES, MOST_BYTE, MOST_BYTES, MOST_COMMANDS, MOST_COORDINATE, MOST_WHOLE,
+    UNIT,
 };
 pub use name::Name;
 pub use parameters::{Parameters, parameters_of};
+pub use ratio_terms::Part;
 pub use reading::{read, spelled_is_read, tokens_stand};
 pub use refusal::{GclFault, Kind, Refusal};
 pub use showing::{show, shown_is_read};
 pub use span::Span;
-pub use ratio_terms::Part;
 pub use word::{Parameter, Range, Side, Statement, Word};

@@ -8,8 +8,8 @@ ghost use Rattle.gcl_reader.specs.Show.{claim_rest, rest_text, line_text, show_t
 
 use crate::file::{Arg, Command, File};
 use crate::table::{statement_text, text_of};
-use crate::writing::{write_args, write_terms};
 use crate::word::{Statement, Word};
+use crate::writing::{write_args, write_terms};
 use desk_io::{Failed, Pen, Sink};
 
 /// Writes what stands behind the name of a statement.

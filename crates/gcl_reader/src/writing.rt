@@ -71,12 +71,7 @@ fn open_part<S: Sink>(part: Part, pen: &mut Pen, sink: &mut S) -> Result<(), Fai
 }
 
 /// Writes a term of a part without operands.
-fn write_leaf<S: Sink>(
-    part: Part,
-    args: &[Arg],
-    pen: &mut Pen,
-    sink: &mut S,
-) -> Result<(), Failed>
+fn write_leaf<S: Sink>(part: Part, args: &[Arg], pen: &mut Pen, sink: &mut S) -> Result<(), Failed>
     ensures bytes { Writes (S.written sink.old) (S.written sink.new) pen.old pen.new result
         (leaf_text part args.now) }
     ensures cause { HasCause (S.faults sink.old) (S.faults sink.new) result }

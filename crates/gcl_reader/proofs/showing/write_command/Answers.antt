@@ -5,6 +5,7 @@ use Rattle.gcl_reader.specs.Table.{text_of}
 use Rattle.gcl_reader.specs.Spelling.{statement_in}
 use Rattle.gcl_reader.specs.Show.{rest_text}
 use Rattle.gcl_reader.specs.declared.file.Arg.{Arg}
+use Rattle.gcl_reader.proofs.Showable.{showable}
 use Rattle.gcl_reader.proofs.showing.write_command.Goals as goal
 
 pub returns-in_err-push-clause-bytes : goal.returns-in_err-push-clause-bytes
@@ -29,3 +30,6 @@ returns-clause-bytes g c =
     last_writes c.push-2.result _ _ _ _ _ _ (c.text_of.result.now ++ rest c.as_slice.result.now) (codes "\n") _
     (Grew-then _ _ _ _ _ _ _ _ c.in_ok-push.ensures.bytes c.in_ok-write_rest.ensures.bytes) c.push-2.ensures.bytes
     (ap (λ (t : List ℕ). (t ++ rest command.args) ++ codes "\n") (sym c.text_of.ensures) ∙ ap (λ (args : List Arg). (c.text_of.result.now ++ rest args) ++ codes "\n") (sym c.as_slice.ensures))
+
+pub write_rest-requires : goal.write_rest-requires
+write_rest-requires g c = rw c.as_slice.ensures (showable c.args.command.now c.requires)

@@ -5,6 +5,8 @@ use Rattle.desk_io.proofs.Writing.{next_failed}
 use Rattle.gcl_reader.specs.Show.{line_text}
 use Rattle.gcl_reader.specs.declared.file.Command.{Command}
 use Rattle.gcl_reader.proofs.Pieces.{item-more, item-split}
+use Rattle.gcl_reader.specs.Fitting.{FitsTable}
+use Rattle.gcl_reader.proofs.Showable.{all-at}
 use Rattle.gcl_reader.proofs.showing.write_commands.Goals as goal
 
 pub returns-in_err-write_command-clause-bytes : goal.returns-in_err-write_command-clause-bytes
@@ -22,3 +24,7 @@ loop-command-preserved g c =
       later = omega (arith, c.in_ok-write_command.ensures.cause.later);
       grew = Grew-more _ _ _ _ _ _ _ _ _ c.loop-command.invariant.grew c.in_ok-write_command.ensures.bytes (item-more line_text xs i c.command-item.result c.loop-command-test.true c.command-item.is);
     }
+
+pub write_command-requires : goal.write_command-requires
+write_command-requires g c =
+    all-at FitsTable c.args.commands.now c.loop-command.command-index c.command-item.result c.requires c.loop-command-test.true c.command-item.is
