@@ -249,8 +249,11 @@ pub fn try_factor(
     let Some(p) = nonconstant(node, f) else {
         return Ok(Trial::Invalid);
     };
+    if !has_second(version) {
+        return Ok(Trial::Invalid);
+    }
     let x = factor_number(p.terms(), class_number(p));
-    if !has_second(version) || x == 0 {
+    if x == 0 {
         return Ok(Trial::Invalid);
     }
     if node.path.len() == MOST_LETTERS {
@@ -273,7 +276,7 @@ fn leaves_nothing<S: TermStore>(
     ensures { IfOk result (λ nothing. nothing ≡ leaves_nothing g.now f.now) }
 {
     match reduction(alloc, s, g, f, var)? {
-        Ok((_, rest)) => Ok(is_zero(&rest)),
+        Ok((_, rest)) => Ok(rest.terms().is_empty()),
         Err(_) => Ok(false),
     }
 }

@@ -33,10 +33,11 @@ pub fn has_factor(p: &OwnedPoly, v: &OwnedPoly) -> bool
     ensures { result ≡ has_factor p.now v.now }
 {
     let class = class_number(v);
+    let terms = p.terms();
     if variable_number(v.terms(), class) == 0 {
         return false;
     }
-    class < class_number(p) && divides(p.terms(), class - 1)
+    class < class_number(p) && divides(terms, class - 1)
 }
 
 /// The polynomial q has one term, and a variable of it divides p.

@@ -1,4 +1,6 @@
 use Rattle.std.proofs.Common.{◌∙◌, ap, sym, length}
+use Rattle.std.proofs.lemmas.Result.{IfOk-weaker}
+use Rattle.poly_model.specs.Powers.{without_variables}
 use Rattle.polynomials.proofs.Results as results
 use Rattle.log_checker.proofs.Stores as stores
 use Rattle.log_checker.proofs.arith.cancelled_out.Goals as goal
@@ -36,3 +38,10 @@ returns-clause-lists g c =
     (stores.made-and-freed _ _ _ _ _ c.copy_in-by.ensures.makes (stores.freed-keeps _ _ _ _ c.without_variables-part.ensures.makes c.taken_out-out.ensures.given_up) c.give_up.ensures)
     c.give_up-2.ensures).lists
     ∙ c.make_room.ensures.lists
+
+pub returns-clause-ok : goal.returns-clause-ok
+returns-clause-ok g c =
+    let t = g.S.TermStore.state c.copy_in-held.new.s in
+    let u = g.S.TermStore.state c.copy_in-by.new.s in
+    let a = results.kept-value t u _ c.copy_in-held.result c.copy_in-by.ensures.makes (results.made-poly _ _ _ _ c.copy_in-held.ensures) ∙ c.copy_in-held.ensures.value in
+    IfOk-weaker c.taken_out-out.result _ _ (λ r h. h ∙ c.without_variables-part.ensures.value ∙ (λ i. without_variables (c.copy_in-by.ensures.value i) (a i))) c.taken_out-out.ensures.copy
