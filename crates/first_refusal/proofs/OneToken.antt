@@ -9,7 +9,7 @@ use Rattle.gcl_reader.specs.declared.refusal.Kind.TheVariants as kind
 use Rattle.gcl_reader.specs.declared.refusal.Refusal.{Refusal}
 use Rattle.gcl_reader.proofs.Bind.{ok-is}
 use Rattle.gcl_reader.proofs.Spelled.{puts}
-use Rattle.first_refusal.proofs.Reading.{not-err, err-is, err-as, IsOf, refused-of, read_as, anything, beside, Ends, Stops, stops-first, IsParser}
+use Rattle.first_refusal.proofs.Reading.{not-err, err-is, err-as, IsOf, refused-of, read_as, anything, beside, Ends, Stops, IsReading, stops-first, IsParser}
 
 -- A refusal behind a test of the token is one of it.
 pub test-faults : {A : Type 0} (v : A) (k : Kind) (t : Token) (b : Bool) (r : Refusal) →
@@ -58,12 +58,12 @@ module _ {A : Type 0} (g : Token → Result A Refusal) where
 
   -- ---- what is read
   abbrev Took : A → Lexed → Lexed → Type 0
-  Took v y x = (front : List Token) × (x ≡ puts front y) × ((z : Lexed) → taking (puts front z) ≡ read_as v z)
+  Took v y x = (front : List Token) × (x ≡ puts front y) × ((z : Lexed) → taking (puts front z) ≡ read_as v z) × ((z : Lexed) → taking (puts front z) ≡ read_as v z)
 
   took : (t : Token) (z : Lexed) (v : A) (y : Lexed) (q : Result A Refusal) → if_text g t ≡ q →
       leaving z q ≡ read_as v y → Took v y (put t z)
   took t z v y (Ok w) is h =
-      subst (λ (p : A × Lexed). Took p.0 p.1 (put t z)) (ok-is h) (t ∷ [], refl, λ u. taking-of t u (Ok w) is)
+      subst (λ (p : A × Lexed). Took p.0 p.1 (put t z)) (ok-is h) (t ∷ [], refl, (λ u. taking-of t u (Ok w) is), (λ u. taking-of t u (Ok w) is))
   took t z v y (Err e) is h = absurd (not-err (sym h))
 
   took-in : (v : A) (y : Lexed) (tokens : List Token) (l a : ℕ) →
@@ -73,30 +73,35 @@ module _ {A : Type 0} (g : Token → Result A Refusal) where
       let z : Lexed = record { tokens = ts; end_line = l; end_at = a } in
       took t z v y (if_text g t) refl (sym (taking-is t z) ∙ h)
 
-  -- ---- where it stops, if some token passes
+  -- ---- where it stops, if a freer reading ends
+  module _ (faults : Faults g) (Free : Lexed → Result (A × Lexed) Refusal) (ends : Ends anything beside Free []) where
+    stops-at : (t : Token) (z : Lexed) (r : Refusal) (q : Result A Refusal) → if_text g t ≡ q → leaving z q ≡ Err r →
+        Stops anything beside taking Free (put t z) r
+    stops-at t z r (Ok w) is h = absurd (not-err h)
+    stops-at t z r (Err e) is h =
+        let refuses : if_text g t ≡ Err r = is ∙ err-as h in
+        stops-first anything beside taking Free ends t z r (text-faults g faults t r refuses) (λ w. taking-of t w (Err r) refuses)
+
+    stops-in : (r : Refusal) (tokens : List Token) (l a : ℕ) →
+        let x : Lexed = record { tokens = tokens; end_line = l; end_at = a } in taking x ≡ Err r → Stops anything beside taking Free x r
+    stops-in r [] l a h =
+        record { before = []; rest = []; tokens = refl; stops = sym (err-is (sym (none-taken l a) ∙ h)); ends = ends }
+    stops-in r (t ∷ ts) l a h =
+        let z : Lexed = record { tokens = ts; end_line = l; end_at = a } in
+        stops-at t z r (if_text g t) refl (sym (taking-is t z) ∙ h)
+
+    pub taking-reads : IsReading anything beside taking Free
+    taking-reads = record { ends = ends; stops = λ x r h. stops-in r x.tokens x.end_line x.end_at h }
+
+  -- It is a parser if some token passes.
   module _ (faults : Faults g) (t₁ : Token) (v₁ : A) (some : (length t₁.text == 0) ≡ false) (passes : g t₁ ≡ Ok v₁) where
     taking-ends : Ends anything beside taking []
     taking-ends =
         let is : if_text g t₁ ≡ Ok v₁ = rw some passes in
         (t₁ ∷ [], v₁, λ z. taking-of t₁ z (Ok v₁) is)
 
-    stops-at : (t : Token) (z : Lexed) (r : Refusal) (q : Result A Refusal) → if_text g t ≡ q → leaving z q ≡ Err r →
-        Stops anything beside taking (put t z) r
-    stops-at t z r (Ok w) is h = absurd (not-err h)
-    stops-at t z r (Err e) is h =
-        let refuses : if_text g t ≡ Err r = is ∙ err-as h in
-        stops-first anything beside taking taking-ends t z r (text-faults g faults t r refuses) (λ w. taking-of t w (Err r) refuses)
-
-    stops-in : (r : Refusal) (tokens : List Token) (l a : ℕ) →
-        let x : Lexed = record { tokens = tokens; end_line = l; end_at = a } in taking x ≡ Err r → Stops anything beside taking x r
-    stops-in r [] l a h =
-        record { before = []; rest = []; tokens = refl; stops = sym (err-is (sym (none-taken l a) ∙ h)); ends = taking-ends }
-    stops-in r (t ∷ ts) l a h =
-        let z : Lexed = record { tokens = ts; end_line = l; end_at = a } in
-        stops-at t z r (if_text g t) refl (sym (taking-is t z) ∙ h)
-
-    pub is-taking : IsParser taking
+    pub is-taking : IsParser taking taking
     is-taking = record {
       exact = λ x v y h. took-in v y x.tokens x.end_line x.end_at h;
-      reads = record { ends = taking-ends; stops = λ x r h. stops-in r x.tokens x.end_line x.end_at h };
+      reads = taking-reads faults taking taking-ends;
     }

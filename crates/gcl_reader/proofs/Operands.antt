@@ -6,7 +6,7 @@ use Rattle.ratio_terms.specs.declared.part.Part.{Part}
 use Rattle.ratio_terms.specs.Terms.{operands_of}
 use Rattle.gcl_reader.specs.Tokens.{Lexed}
 use Rattle.gcl_reader.specs.Table.{parameters_in}
-use Rattle.gcl_reader.specs.Grammar.{◌>>=◌, brace_at, part_at, args_at, Fails, with_operands, over_two, term_at}
+use Rattle.gcl_reader.specs.Grammar.{◌>>=◌, brace_at, part_at, args_at, Fails, over_two, term_at}
 use Rattle.gcl_reader.specs.declared.refusal.Refusal.{Refusal}
 use Rattle.gcl_reader.specs.declared.refusal.GclFault.{GclFault}
 use Rattle.gcl_reader.specs.declared.refusal.GclFault.TheVariants as fault

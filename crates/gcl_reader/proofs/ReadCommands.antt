@@ -1,5 +1,5 @@
 -- What the tokens spell, where it fits the table, is read by the grammar.
-use Rattle.std.proofs.Common.{◌≡◌, ℕ, ◌≤◌, zero, suc, List, [], ◌∷◌, ◌++◌, length, Ok, Option, Some, None, false, true, ◌==◌, refl, sym, ap, subst, ◌∙◌, arith, append_assoc, codes}
+use Rattle.std.proofs.Common.{◌≡◌, ℕ, ◌≤◌, zero, suc, List, [], ◌∷◌, ◌++◌, length, Ok, Option, Some, None, false, ◌==◌, refl, sym, ap, subst, ◌∙◌, arith, append_assoc, codes}
 use Rattle.std.specs.List.{AllZip, AllByRecursion}
 use Rattle.std.proofs.lemmas.Bool.Decides.{nat_tests}
 use Rattle.ratio_terms.specs.declared.part.Part.{Part}
@@ -7,7 +7,7 @@ use Rattle.ratio_terms.specs.Terms.{parts_of}
 use Rattle.ratio_terms.specs.Terms as terms
 use Rattle.gcl_reader.specs.Tokens.{Token, Lexed, put}
 use Rattle.gcl_reader.specs.Table.{statement_text, claim_text, text_of, head_of, claim_of, parameters_of, points_of}
-use Rattle.gcl_reader.specs.Grammar.{Said, claim_at, claimed_at, said_at, command_of, command_at, first_at, commands_at}
+use Rattle.gcl_reader.specs.Grammar.{claim_at, claimed_at, said_at, command_of, command_at, first_at, commands_at}
 use Rattle.gcl_reader.specs.Fitting.{IsStatement, IsWord, IsWithin, IsWordWithin, are_within, FitsWithin}
 use Rattle.gcl_reader.specs.Spelling.{StandsAt, Says, statement_in, SpellsClaim, SpellsRest, Spells}
 use Rattle.gcl_reader.specs.declared.word.Word.{Word}

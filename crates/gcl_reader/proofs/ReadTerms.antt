@@ -1,5 +1,5 @@
 -- Terms that tokens spell, where they fit, are read.
-use Rattle.std.proofs.Common.{◌≡◌, ℕ, ◌*◌, ◌/◌, ◌%◌, ◌≤◌, zero, suc, max, List, [], ◌∷◌, ◌++◌, length, Ok, Option, Some, None, true, false, ◌==◌, nat_le, refl, sym, ap, subst, ◌∙◌, arith, ℤ, pos, append_assoc, codes}
+use Rattle.std.proofs.Common.{◌≡◌, ℕ, ◌*◌, ◌/◌, ◌%◌, ◌≤◌, zero, suc, List, [], ◌∷◌, ◌++◌, length, Ok, Option, Some, None, true, false, ◌==◌, nat_le, refl, sym, ap, ◌∙◌, arith, ℤ, pos, append_assoc, codes}
 use Rattle.std.specs.List.{AllZip}
 use Rattle.std.proofs.lemmas.List.{append-nil}
 use Rattle.std.proofs.lemmas.Bool.Decides.{nat_tests}

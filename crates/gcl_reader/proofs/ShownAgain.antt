@@ -11,13 +11,12 @@ use Rattle.gcl_reader.specs.declared.word.Word.{Word}
 use Rattle.gcl_reader.specs.declared.word.Word.TheVariants as word
 use Rattle.gcl_reader.specs.declared.word.Statement.{Statement}
 use Rattle.gcl_reader.specs.declared.word.Parameter.{Parameter}
-use Rattle.gcl_reader.specs.declared.file.What.{What}
 use Rattle.gcl_reader.specs.declared.file.Arg.{Arg}
 use Rattle.gcl_reader.specs.declared.file.Command.{Command}
 use Rattle.gcl_reader.proofs.Words.{alone-within}
 use Rattle.gcl_reader.proofs.TermsFit.{FitsArg}
 use Rattle.gcl_reader.proofs.ReadCommands.{commands-read}
-use Rattle.gcl_reader.proofs.Lines.{IsCut, CutsOff, text-off, statement-off, line-passed, args-ahead}
+use Rattle.gcl_reader.proofs.Lines.{IsCut, text-off, statement-off, line-passed, args-ahead}
 use Rattle.gcl_reader.proofs.ShownTerms.{token_at, middle_at, in_braces, end_of, closing, blank-cuts, behind, braces-ahead, args_on, values, args-said, values-kept, claim-shown, claim-cut}
 
 -- Values that are kept fit as they did.

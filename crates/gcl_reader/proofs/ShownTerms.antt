@@ -1,5 +1,5 @@
 -- The tokens of a statement that is shown.
-use Rattle.std.proofs.Common.{◌≡◌, ℕ, ◌+◌, ◌*◌, ◌/◌, ◌%◌, ◌^◌, ◌≤◌, ◌<◌, zero, suc, List, [], ◌∷◌, ◌++◌, length, map, true, false, ◌==◌, refl, sym, ap, subst, ◌∙◌, arith, ℤ, pos, append_assoc, codes, decimal, Ok}
+use Rattle.std.proofs.Common.{◌≡◌, ℕ, ◌+◌, ◌*◌, ◌/◌, ◌%◌, ◌^◌, ◌≤◌, List, [], ◌∷◌, ◌++◌, length, map, refl, sym, ap, subst, ◌∙◌, arith, pos, append_assoc, codes, decimal, Ok}
 use Rattle.std.specs.Prelude.{flat_map}
 use Rattle.std.specs.List.{AllZip}
 use Rattle.std.proofs.lemmas.List.{append-nil, map-append}
@@ -10,7 +10,7 @@ use Rattle.fixed_point.specs.declared.limits.TheConstants.{MOST_DECIMALS}
 use Rattle.fixed_point.proofs.Again.{again, whole-written}
 use Rattle.ratio_terms.specs.declared.part.Part.{Part}
 use Rattle.ratio_terms.specs.declared.part.Part.TheVariants as part
-use Rattle.ratio_terms.specs.Terms.{Term, Whole, Area, Pythagoras, Ratio, Sum, Product, parts_of, points_of, terms_of, are_terms}
+use Rattle.ratio_terms.specs.Terms.{Term, Whole, Area, Pythagoras, Ratio, Sum, Product, parts_of, points_of, terms_of}
 use Rattle.ratio_terms.proofs.Preorder.{parts_terms}
 use Rattle.gcl_reader.specs.Tokens.{Token, Between, tokens_from, is_blank, is_word, is_brace}
 use Rattle.gcl_reader.specs.Table.{parameters_in, statement_text}
@@ -23,7 +23,6 @@ use Rattle.gcl_reader.specs.declared.limits.TheConstants.{MOST_WHOLE, UNIT}
 use Rattle.gcl_reader.specs.declared.word.Statement.{Statement}
 use Rattle.gcl_reader.specs.declared.word.Statement.TheVariants as statement
 use Rattle.gcl_reader.specs.declared.word.Parameter.{Parameter}
-use Rattle.gcl_reader.specs.declared.word.Parameter.TheVariants as parameter
 use Rattle.gcl_reader.specs.declared.file.What.{What}
 use Rattle.gcl_reader.specs.declared.file.Arg.{Arg}
 use Rattle.gcl_reader.proofs.TermsFit.{FitsArg, Fit, FitsTerm, two-there, two-fit}

@@ -1,5 +1,5 @@
 -- What the grammar reads is spelled by the tokens, and fits the table.
-use Rattle.std.proofs.Common.{◌≡◌, ℕ, ◌≤◌, zero, suc, List, [], ◌∷◌, ◌++◌, length, Result, Ok, Err, Option, Some, None, true, false, ◌==◌, refl, sym, ap, subst, ◌∙◌, arith, append_assoc, codes}
+use Rattle.std.proofs.Common.{◌≡◌, ℕ, ◌≤◌, zero, suc, List, [], ◌∷◌, ◌++◌, length, Result, Ok, Err, Option, Some, None, true, ◌==◌, refl, sym, ap, subst, ◌∙◌, arith, append_assoc, codes}
 use Rattle.std.specs.List.{AllZip, AllByRecursion}
 use Rattle.std.proofs.lemmas.List.{append-nil}
 use Rattle.ratio_terms.specs.declared.part.Part.{Part}
@@ -7,8 +7,8 @@ use Rattle.ratio_terms.specs.Terms.{are_terms, parts_of}
 use Rattle.ratio_terms.proofs.Preorder.{parts_whole}
 use Rattle.gcl_reader.specs.Tokens.{Token, Lexed, put}
 use Rattle.gcl_reader.specs.Table.{text_of, statement_text, claim_text, head_of, claim_of, parameters_of, points_of}
-use Rattle.gcl_reader.specs.Grammar.{◌>>=◌, Said, refused, token_at, args_at, brace_at, terms_at, claim_or, claim_at, claimed_at, said_at, command_of, command_at, head_or, first_at, commands_at}
-use Rattle.gcl_reader.specs.Fitting.{IsPart, IsStatement, IsWord, IsWithin, IsWordWithin, are_within, FitsWithin}
+use Rattle.gcl_reader.specs.Grammar.{◌>>=◌, Said, refused, token_at, args_at, brace_at, terms_at, claim_or, claim_at, claimed_at, said_at, command_at, head_or, first_at, commands_at}
+use Rattle.gcl_reader.specs.Fitting.{IsStatement, IsWord, IsWithin, IsWordWithin, are_within, FitsWithin}
 use Rattle.gcl_reader.specs.Spelling.{Says, SpellsClaim, SpellsRest, SpellsCommand, Spells, statement_in}
 use Rattle.gcl_reader.specs.declared.word.Word.{Word}
 use Rattle.gcl_reader.specs.declared.word.Word.TheVariants as word
@@ -26,8 +26,8 @@ use Rattle.gcl_reader.specs.declared.equality.Terms.{Terms}
 use Rattle.gcl_reader.proofs.Bind.{bind-ok, ok-is, where-false}
 use Rattle.gcl_reader.proofs.Words.{IsOverPoints, IsClaim, IsHead, alone-within, claim-is, head-is}
 use Rattle.gcl_reader.proofs.TermsFit.{FitsArg, Fit, fit-two, two-within}
-use Rattle.gcl_reader.proofs.Spelled.{puts, ArgsIn, token-taken, args-taken, brace-taken}
-use Rattle.gcl_reader.proofs.SpelledTerms.{TermsAhead, TermsIn, terms-taken}
+use Rattle.gcl_reader.proofs.Spelled.{puts, token-taken, args-taken, brace-taken}
+use Rattle.gcl_reader.proofs.SpelledTerms.{TermsIn, terms-taken}
 
 -- ---- a statement
 

@@ -1,5 +1,5 @@
 -- The terms that are read are spelled by the tokens, and fit.
-use Rattle.std.proofs.Common.{◌≡◌, ℕ, ◌+◌, ◌*◌, ◌/◌, ◌%◌, ◌≤◌, zero, suc, max, List, [], ◌∷◌, ◌++◌, Result, Ok, Err, Option, Some, None, Bool, true, false, cond, ◌==◌, ◌&&◌, nat_le, refl, sym, ap, subst, ◌∙◌, arith, ℤ, pos, negsuc, append_assoc, codes}
+use Rattle.std.proofs.Common.{◌≡◌, ℕ, ◌*◌, ◌/◌, ◌%◌, ◌≤◌, zero, suc, max, List, [], ◌∷◌, ◌++◌, Result, Ok, Err, Option, Some, None, Bool, true, false, cond, ◌==◌, ◌&&◌, nat_le, refl, sym, ap, subst, ◌∙◌, arith, ℤ, pos, negsuc, append_assoc, codes}
 use Rattle.std.specs.List.{AllZip}
 use Rattle.std.proofs.lemmas.List.{append-nil}
 use Rattle.std.proofs.lemmas.Bool.{and_parts}
@@ -12,7 +12,7 @@ use Rattle.ratio_terms.specs.declared.part.Part.TheVariants as part
 use Rattle.ratio_terms.specs.Terms.{Term, Whole, Area, Pythagoras, Ratio, Sum, Product, parts_of, points_of, depth_of}
 use Rattle.gcl_reader.specs.Tokens.{Token, Lexed, put}
 use Rattle.gcl_reader.specs.Table.{parameters_in, part_text, part_named}
-use Rattle.gcl_reader.specs.Grammar.{◌>>=◌, token_at, whole_of, whole_or, whole_in, part_or, part_at, args_at, brace_at, leaf, over_two, both, with_operands, term_at, terms_at}
+use Rattle.gcl_reader.specs.Grammar.{◌>>=◌, token_at, whole_of, whole_or, whole_in, part_or, part_at, args_at, brace_at, leaf, over_two, with_operands, term_at, terms_at}
 use Rattle.gcl_reader.specs.Spelling.{Says, SpellsInside, SpellsTerm}
 use Rattle.gcl_reader.specs.declared.limits.TheConstants.{MOST_WHOLE, UNIT}
 use Rattle.gcl_reader.specs.declared.refusal.Refusal.{Refusal}

@@ -4,12 +4,10 @@ use Rattle.std.specs.Str.{bytes_eq}
 use Rattle.std.specs.List.{list_all}
 use Rattle.std.proofs.lemmas.Bool.{and_parts}
 use Rattle.std.proofs.lemmas.Slice.Eq.{bytes_eq-Decides}
-use Rattle.fixed_point.specs.Decimal.{fix_of}
-use Rattle.fixed_point.specs.declared.fault.NumberFault.TheVariants as number
 use Rattle.ratio_terms.specs.declared.part.Part.{Part}
 use Rattle.ratio_terms.specs.declared.part.Part.TheVariants as part
 use Rattle.gcl_reader.specs.Table.{named, heads, head_text, claims, claim_text, part_words, part_text, statement_text, text_of, head_of, claim_of, part_named}
-use Rattle.gcl_reader.specs.Fitting.{IsStatement, IsWord, IsWithin, IsWordWithin}
+use Rattle.gcl_reader.specs.Fitting.{IsWord, IsWordWithin}
 use Rattle.gcl_reader.specs.Spelling.{statement_in}
 use Rattle.gcl_reader.specs.declared.word.Word.{Word}
 use Rattle.gcl_reader.specs.declared.word.Word.TheVariants as word

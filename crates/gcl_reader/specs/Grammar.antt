@@ -1,5 +1,5 @@
 -- The commands of a file, or the refusal of the first token that offends: a grammar over the list of tokens.
-use Rattle.std.specs.Prelude.{◌≡◌, ℕ, zero, suc, List, [], ◌∷◌, ◌++◌, length, Bool, ◌&&◌, ◌/◌, ◌%◌, nat_le, Option, Some, None, Result, Ok, Err, if◌then◌else◌, ◌==◌, ℤ, pos, negsuc, codes}
+use Rattle.std.specs.Prelude.{◌≡◌, ℕ, zero, suc, List, [], ◌∷◌, ◌++◌, length, ◌&&◌, ◌/◌, ◌%◌, nat_le, Option, Some, None, Result, Ok, Err, if◌then◌else◌, ◌==◌, ℤ, pos, negsuc, codes}
 use Rattle.std.specs.Str.{bytes_eq}
 use Rattle.gcl_reader.specs.Tokens.{Token, Lexed, lexed}
 use Rattle.fixed_point.specs.Decimal.{fix_of}
@@ -13,7 +13,6 @@ use Rattle.ratio_terms.specs.declared.part.Part.TheVariants as part
 use Rattle.gcl_reader.specs.Table.{head_of, claim_of, part_named, parameters_of, parameters_in, points_of, in_range}
 use Rattle.gcl_reader.specs.declared.word.Word.{Word}
 use Rattle.gcl_reader.specs.declared.word.Word.TheVariants as word
-use Rattle.gcl_reader.specs.declared.word.Statement.{Statement}
 use Rattle.gcl_reader.specs.declared.word.Statement.TheVariants as statement
 use Rattle.gcl_reader.specs.declared.word.Claim.{Claim}
 use Rattle.gcl_reader.specs.declared.word.Claim.TheVariants as claim

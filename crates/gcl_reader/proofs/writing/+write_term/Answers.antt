@@ -1,11 +1,10 @@
-use Rattle.std.proofs.Common.{◌≡◌, ℕ, ◌+◌, List, [], ◌++◌, take, drop, sym, ◌∙◌, ap, subst, codes}
-use Rattle.ratio_terms.specs.Terms.{names_of, operands_of, terms_of, first_of, behind_first}
+use Rattle.std.proofs.Common.{ℕ, List, [], ◌++◌, take, sym, ◌∙◌, ap, subst, codes}
 use Rattle.ratio_terms.proofs.Taking as taking
 use Rattle.std.proofs.lemmas.List.{append-nil}
 use Rattle.desk_io.specs.Bytes.{Grew}
 use Rattle.desk_io.proofs.Growth.{Grew-then}
-use Rattle.desk_io.proofs.Writing.{first_failed, next_failed, last_writes}
-use Rattle.gcl_reader.specs.Show.{opened_text, leaf_text, term_text}
+use Rattle.desk_io.proofs.Writing.{first_failed, next_failed}
+use Rattle.gcl_reader.specs.Show.{opened_text, leaf_text}
 use Rattle.gcl_reader.proofs.WritingTerms as texts
 use Rattle.gcl_reader.proofs.writing.+write_term.Goals as goal
 
