@@ -2,7 +2,12 @@
 use Rattle.std.proofs.Common.{◌≡◌, ℕ, ℤ, zero, suc, ◌+◌, ◌*◌, ◌/◌, ◌%◌, min, ◌≤◌, List, [], ◌∷◌, length, Option, Some, None, Bool, true, false, refl, sym, ap, subst, ◌∙◌, arith, nat_le, ◌==◌}
 use Rattle.std.specs.Prelude.{pos, negsuc}
 use Rattle.std.proofs.lemmas.Bool.{and_parts, leb-true, eqb-true}
-use Rattle.gcl_reader.specs.Table.{parameters_of, points_of}
+use Rattle.std.specs.Prelude.{flat_map}
+use Rattle.ratio_terms.specs.declared.part.Part.{Part}
+use Rattle.ratio_terms.specs.declared.part.Part.TheVariants as part
+use Rattle.gcl_reader.specs.declared.limits.TheConstants.{MOST_BRACES}
+use Rattle.gcl_reader.specs.Fitting.{IsStatement, IsWithin, IsWordWithin}
+use Rattle.gcl_reader.specs.Table.{parameters_of, parameters_in, points_of}
 use Rattle.gcl_reader.specs.Fitting.{IsWord}
 use Rattle.gcl_reader.specs.Spelling.{statement_in}
 use Rattle.gcl_reader.specs.declared.limits.TheConstants.{UNIT, MOST_BYTE}
@@ -53,6 +58,7 @@ shaped parameter.Line r = ref.Line (number_of r)
 shaped parameter.Circle r = ref.Circle (number_of r)
 shaped parameter.Curve r = r
 shaped parameter.OtherCurve r = r
+shaped parameter.OtherPoint r = r
 shaped (parameter.Number q) r = ref.Number (value_of r)
 
 -- One for each parameter, from a row of references.
@@ -75,6 +81,7 @@ shaped-is n now parameter.Line c (ref.Line k) f = refl
 shaped-is n now parameter.Circle c (ref.Circle k) f = refl
 shaped-is n now parameter.Curve c r f = refl
 shaped-is n now parameter.OtherCurve c r f = refl
+shaped-is n now parameter.OtherPoint c r f = refl
 shaped-is n now (parameter.Number q) c (ref.Number z) f = refl
 shaped-is n now p c r f = absurd f
 
@@ -152,10 +159,21 @@ cut-follows n x y p q hx hy hp hq = absurd hp
 abbrev ArePoints : List Parameter → Type 0
 ArePoints [] = Unit {0}
 ArePoints (parameter.Point ∷ ps) = ArePoints ps
+ArePoints (parameter.OtherPoint ∷ ps) = ArePoints ps
 ArePoints (p ∷ ps) = ⊥
+
+terms-points : (parts : List Part) → ArePoints (flat_map parameters_in parts)
+terms-points [] = tt
+terms-points (part.Whole k ∷ ps) = terms-points ps
+terms-points (part.Area3 ∷ ps) = terms-points ps
+terms-points (part.Pyth3 ∷ ps) = terms-points ps
+terms-points (part.Sratio ∷ ps) = terms-points ps
+terms-points (part.Sum ∷ ps) = terms-points ps
+terms-points (part.Mult ∷ ps) = terms-points ps
 
 statement-points : (s : Statement) → ArePoints (points_of s)
 statement-points statement.Identical = tt
+statement-points (statement.Equal parts) = terms-points parts
 statement-points s = tt
 
 points-follow : (ps : List Parameter) (n now : Counts) (c : Bool) (refs : List Ref) → ArePoints ps → FitRefs ps n now c refs →
@@ -168,13 +186,17 @@ points-follow (parameter.Point ∷ ps) n now c (ref.Point k ∷ refs) are f =
     let rest = points-follow ps n now false refs are f.1 in
     (ap suc rest.0, (f.0, rest.1), rest.2)
 points-follow (parameter.Point ∷ ps) n now c (r ∷ refs) are f = absurd f.0
+points-follow (parameter.OtherPoint ∷ ps) n now c (ref.Point k ∷ refs) are f =
+    let rest = points-follow ps n now false refs are f.1 in
+    (ap suc rest.0, (f.0, rest.1), rest.2)
+points-follow (parameter.OtherPoint ∷ ps) n now c (r ∷ refs) are f = absurd f.0
 points-follow (p ∷ ps) n now c (r ∷ refs) are f = absurd are
 
-prove-follows : (s : Statement) (n : Counts) (refs : List Ref) → length (points_in refs) ≡ length (points_of s) → AreMade n (points_in refs) →
+prove-follows : (s : Statement) (n : Counts) (refs : List Ref) → IsStatement s → IsWithin MOST_BRACES s → length (points_in refs) ≡ length (points_of s) → AreMade n (points_in refs) →
     all_filled (points_of s) (started (word.Prove s) n) ≡ started (word.Prove s) n →
     DeedFollows n (deed_of (word.Prove s) refs) (all_filled (points_of s) (started (word.Prove s) n))
 unfolding deed_of
-prove-follows s n refs count made left = ((count, made), left)
+prove-follows s n refs is within count made left = ((count, made, is, within), left)
 
 -- What holds for fitting references of the right kinds holds for those that fit.
 from-shaped : (ps : List Parameter) (n now : Counts) (c : Bool) (refs : List Ref) (P : List Ref → Type 0) → FitRefs ps n now c refs →
@@ -183,19 +205,19 @@ from-shaped ps n now c refs P f step =
     let same = all_shaped-is ps n now c refs f in
     subst P same (step (at refs) (subst (FitRefs ps n now c) (sym same) f))
 
-pub deeds-follow : (w : Word) (n : Counts) (refs : List Ref) → IsWord w → FitRefs (parameters_of w) n (started w n) false refs →
+pub deeds-follow : (w : Word) (n : Counts) (refs : List Ref) → IsWord w → IsWordWithin MOST_BRACES w → FitRefs (parameters_of w) n (started w n) false refs →
     DeedFollows n (deed_of w refs) (all_filled (parameters_of w) (started w n))
 unfolding is_regular
-deeds-follow word.Color n refs is f =
+deeds-follow word.Color n refs is within f =
     from-shaped (parameters_of word.Color) n n false refs (λ l. DeedFollows n (deed_of word.Color l) n) f
     (λ e g. colour-follows n (value_of (e 0)) (value_of (e 1)) (value_of (e 2)) g.0 g.1.0 g.1.1.0)
-deeds-follow word.Intersec2 n refs is f =
+deeds-follow word.Intersec2 n refs is within f =
     from-shaped (parameters_of word.Intersec2) n n false refs (λ l. DeedFollows n (deed_of word.Intersec2 l) (two_more n)) f
     (λ e g. cut-follows n (number_of (e 0)) (number_of (e 1)) (e 2) (e 3) g.0 g.1.0 g.1.1.0 g.1.1.1.0)
-deeds-follow (word.Prove s) n refs is f =
+deeds-follow (word.Prove s) n refs is within f =
     let points = points-follow (points_of s) n (started (word.Prove s) n) false refs (statement-points s) f in
-    prove-follows s n refs points.0 points.1 points.2
-deeds-follow w n refs is f =
+    prove-follows s n refs is within points.0 points.1 points.2
+deeds-follow w n refs is within f =
     row-follows n w refs (deed_of w refs) refl
     (from-shaped (parameters_of w) n n false refs (λ l. HasRow w l (deed_of w l)) f (λ e g. rows-agree w e refl))
     is f

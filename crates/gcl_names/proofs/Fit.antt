@@ -20,7 +20,7 @@ use Rattle.gcl_names.specs.declared.scope.Scope.{Scope}
 use Rattle.gcl_names.specs.Reference.{ref_in, refs_in, what_in, name_in, takes, ref_of, refers_to_circle, is_made, with_name}
 use Rattle.gcl_names.proofs.Below.{IsBelow, AllBelow, below-found, below-push}
 use Rattle.gcl_names.proofs.Rising.{AtMost, more-lines, more-circles}
-use Rattle.gcl_names.proofs.Kept.{IsUsed, chosen, new_point-gives, used-gives, parts}
+use Rattle.gcl_names.proofs.Kept.{IsUsed, what-given, chosen, new_point-gives, used-gives, parts}
 
 abbrev pub counts_of : Scope → Counts
 counts_of s = record { points = length s.points; lines = s.lines; circles = s.circles; proves = s.proves }
@@ -35,6 +35,7 @@ used-fits n now parameter.Line c (meaning.Line k) t b = b
 used-fits n now parameter.Circle c (meaning.Circle k) t b = b
 used-fits n now parameter.Curve c (meaning.Line k) t b = b
 used-fits n now parameter.Curve c (meaning.Circle k) t b = b
+used-fits n now parameter.OtherPoint c (meaning.Point k) t b = b
 used-fits n now parameter.OtherCurve true (meaning.Line k) t b = b
 used-fits n now parameter.OtherCurve true (meaning.Circle k) t b = b
 used-fits n now parameter.OtherCurve false (meaning.Circle k) t b = b
@@ -128,8 +129,7 @@ module _ (n : Counts) (earlier : Meanings) (all : AllBelow n earlier) where
 
   pub next : (p : Parameter) (ps : List Parameter) (args : List Arg) (c : Bool) (s after : Scope) (a : Arg) (r : Ref) → FitsParameter p a.what → Holds s →
       ref_in p ps args earlier c s a ≡ Ok (r, after) → Next p n c s r after
-  unfolding ref_in
-  next p ps args c s after a r fits holds h = next-what p ps args c s after a r a.what fits holds h
+  next p ps args c s after a r fits holds h = next-what p ps args c s after a r a.what fits holds (what-given p ps args earlier c s after a r h)
 
 -- What the arguments give: references that fit, the counts behind them, and a scope that still holds.
 abbrev pub AllNext : List Parameter → Counts → Bool → Scope → List Ref → Scope → Type 0

@@ -1,5 +1,5 @@
 -- What an argument's place gives, where it refuses nothing, and that the names of earlier commands stay in front.
-use Rattle.std.proofs.Common.{◌≡◌, ℕ, ◌≤◌, List, [], ◌∷◌, ◌++◌, length, take, Option, Some, None, Bool, true, false, cond, nat_le, ◌||◌, is_some, Result, Ok, Err, refl, ap, subst, arith}
+use Rattle.std.proofs.Common.{◌≡◌, ℕ, ◌≤◌, List, [], ◌∷◌, ◌++◌, length, take, Option, Some, None, Bool, true, false, cond, nat_le, ◌||◌, is_some, Result, Ok, Err, refl, ap, subst, arith, ◌∙◌}
 use Rattle.std.proofs.lemmas.List.{length-take, take-append-le}
 use Rattle.gcl_reader.specs.Grammar.{◌>>=◌}
 use Rattle.gcl_reader.specs.Span.{refusal, span_of_arg}
@@ -17,7 +17,8 @@ use Rattle.gcl_names.specs.declared.meaning.Meaning.TheVariants as meaning
 use Rattle.gcl_names.specs.declared.meaning.Ref.{Ref}
 use Rattle.gcl_names.specs.declared.meaning.Ref.TheVariants as ref
 use Rattle.gcl_names.specs.declared.scope.Scope.{Scope}
-use Rattle.gcl_names.specs.Reference.{ref_in, what_in, name_in, used, takes, ref_of, new_name, new_point, with_name, is_made}
+use Rattle.gcl_reader.proofs.Bind.{bind-ok}
+use Rattle.gcl_names.specs.Reference.{ref_in, what_in, name_in, used, takes, ref_of, new_name, new_point, with_name, is_made, same_ends, unless_refused}
 
 pub chosen : {X : Type 0} (b : Bool) (e : Refusal) (x y : X) → cond b (Err e) (Ok x) ≡ Ok y → x ≡ y
 chosen true e x y h = cc
@@ -36,6 +37,18 @@ new_point-gives again text s a r after h = chosen-below (is_some (meaning_in tex
 pub parts : (q r : Ref) (s after : Scope) → ◌≡◌ {A = Result (Ref × Scope) Refusal} (Ok (q, s)) (Ok (r, after)) → (q ≡ r) × (s ≡ after)
 parts q r s after h =
     let e : ◌≡◌ {A = Ref × Scope} (q, s) (r, after) = cc in (ap (λ (x : Ref × Scope). x.0) e, ap (λ (x : Ref × Scope). x.1) e)
+
+unless-gives : {X : Type 0} (o : Option Refusal) (x y : X) → unless_refused o x ≡ Ok y → x ≡ y
+unless-gives None x y h = cc
+unless-gives (Some e) x y h = cc
+
+-- What an argument gives is what it is for its parameter.
+pub what-given : (p : Parameter) (ps : List Parameter) (args : List Arg) (earlier : Meanings) (c : Bool) (s after : Scope) (a : Arg) (r : Ref) →
+    ref_in p ps args earlier c s a ≡ Ok (r, after) → what_in p ps args earlier c s a a.what ≡ Ok (r, after)
+unfolding ref_in
+what-given p ps args earlier c s after a r h =
+    let b = bind-ok (what_in p ps args earlier c s a a.what) _ (r, after) h in
+    b.1 ∙ ap (λ (x : Ref × Scope). Ok x) (unless-gives (same_ends a.what ps args) b.0 (r, after) b.2)
 
 abbrev with : Scope → Ref → Result (Ref × Scope) Refusal
 with s r = Ok (r, s)
@@ -84,5 +97,4 @@ module _ (base : Meanings) where
 
   -- An argument adds names behind the earlier ones.
   pub kept : (p : Parameter) (ps : List Parameter) (args : List Arg) (earlier : Meanings) (c : Bool) (s after : Scope) (a : Arg) (r : Ref) → IsKept s → ref_in p ps args earlier c s a ≡ Ok (r, after) → IsKept after
-  unfolding ref_in
-  kept p ps args earlier c s after a r k h = kept-what p ps args earlier c s after a r a.what k h
+  kept p ps args earlier c s after a r k h = kept-what p ps args earlier c s after a r a.what k (what-given p ps args earlier c s after a r h)

@@ -8,3 +8,4 @@ pub mod Fit
 pub mod Deeds
 pub mod SoundActs
 pub mod Naming
+mod FewMade

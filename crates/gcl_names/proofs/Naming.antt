@@ -32,7 +32,7 @@ use Rattle.gcl_names.specs.declared.scope.Scope.{Scope}
 use Rattle.gcl_names.specs.declared.program.Deed.{Deed}
 use Rattle.gcl_names.specs.declared.program.Act.{Act}
 use Rattle.gcl_names.specs.declared.program.Program.{Program}
-use Rattle.gcl_names.proofs.Kept.{used-gives, parts}
+use Rattle.gcl_names.proofs.Kept.{what-given, used-gives, parts}
 use Rattle.gcl_names.proofs.Fit.{counts_of, Holds}
 use Rattle.gcl_names.proofs.SoundActs.{ActFollows, act-follows, nothing-holds}
 
@@ -192,8 +192,7 @@ what-step p ps args earlier s after a r (what.Name text) c fits named h = name-s
 
 arg-step : (p : Parameter) (ps : List Parameter) (args : List Arg) (earlier : Meanings) (s after : Scope) (a : Arg) (r : Ref) (c : Bool) → FitsParameter p a.what → Named s →
     ref_in p ps args earlier c s a ≡ Ok (r, after) → Step p earlier s a.what r after
-unfolding ref_in
-arg-step p ps args earlier s after a r c fits named h = what-step p ps args earlier s after a r a.what c fits named h
+arg-step p ps args earlier s after a r c fits named h = what-step p ps args earlier s after a r a.what c fits named (what-given p ps args earlier c s after a r h)
 
 -- What an argument says it still says in front of more names.
 means-front : (b : Bool) (earlier names more : Meanings) (w : What) (r : Ref) → Means (if b then names else earlier) w r → Means (if b then names ++ more else earlier) w r

@@ -72,7 +72,7 @@ act-follows c s after a fits holds h =
     let got = refs-fit (parameters_of w) c.args n start.names false start two.0.1 two.0.0 all fits.1 begun.2 two.1 in
     let each = subst (λ (x : Counts). FitRefs (parameters_of w) n x false two.0.0) begun.0 got.0 in
     let left : counts_of two.0.1 ≡ all_filled (parameters_of w) (started w n) = got.1 ∙ ap (all_filled (parameters_of w)) begun.0 in
-    let follows = subst (λ (x : Counts). DeedFollows n (deed_of w two.0.0) x) (sym left) (deeds-follow w n two.0.0 fits.0 each) in
+    let follows = subst (λ (x : Counts). DeedFollows n (deed_of w two.0.0) x) (sym left) (deeds-follow w n two.0.0 fits.0 fits.2 each) in
     subst (λ (x : Option Act × Scope). ActFollows n x.0 (counts_of x.1) × Holds x.1) e
     (act-of c n (counts_of two.0.1) (deed_of w two.0.0) follows, got.2)
 

@@ -5,3 +5,4 @@ pub mod Reference
 pub mod Program
 pub mod Sound
 pub mod Named
+pub mod Making

@@ -57,6 +57,7 @@ takes parameter.Line c m = is_line m
 takes parameter.Circle c m = is_circle m
 takes parameter.Curve c m = is_line m || is_circle m
 takes parameter.OtherCurve c m = is_circle m || (c && is_line m)
+takes parameter.OtherPoint c m = is_point m
 takes (parameter.Number r) c m = false
 
 -- A name that is used, with what earlier commands make of it.
@@ -94,6 +95,7 @@ is_new parameter.Line = false
 is_new parameter.Circle = false
 is_new parameter.Curve = false
 is_new parameter.OtherCurve = false
+is_new parameter.OtherPoint = false
 is_new (parameter.Number r) = false
 
 -- Whether an argument is the name.
@@ -132,6 +134,7 @@ name_in parameter.Line again earlier c s a text = found parameter.Line earlier c
 name_in parameter.Circle again earlier c s a text = found parameter.Circle earlier c s a text
 name_in parameter.Curve again earlier c s a text = found parameter.Curve earlier c s a text
 name_in parameter.OtherCurve again earlier c s a text = found parameter.OtherCurve earlier c s a text
+name_in parameter.OtherPoint again earlier c s a text = found parameter.OtherPoint earlier c s a text
 name_in (parameter.Number r) again earlier c s a text = found (parameter.Number r) earlier c s a text
 
 -- What an argument is, for its parameter: a number stands for itself.
@@ -140,10 +143,25 @@ abbrev pub what_in : Parameter → List Parameter → List Arg → (earlier : Me
 what_in p ps args earlier c s a (what.Name text) = name_in p (is_made text ps args) earlier c s a text
 what_in p ps args earlier c s a (what.Number n) = Ok (ref.Number n, s)
 
+-- Whether two arguments are one name.
+abbrev pub are_one : What → What → Bool
+are_one (what.Name text) w = is_named text w
+are_one (what.Number n) w = false
+
+-- Behind a point, the argument that is to be another point is refused where it is the same name.
+abbrev pub same_ends : What → List Parameter → List Arg → Option Refusal
+same_ends w (parameter.OtherPoint ∷ ps) (a ∷ args) =
+    if are_one w a.what then Some (refusal kind.SameEnds (span_of_arg a)) else None
+same_ends w ps args = None
+
+abbrev pub unless_refused : {X : Type 0} → Option Refusal → X → Result X Refusal
+unless_refused (Some e) x = Err e
+unless_refused None x = Ok x
+
 -- An argument for its parameter, in front of other parameters and their arguments.
 unfoldable pub ref_in : Parameter → List Parameter → List Arg → (earlier : Meanings) → Bool → Scope → Arg →
     Result (Ref × Scope) Refusal
-ref_in p ps args earlier c s a = what_in p ps args earlier c s a a.what
+ref_in p ps args earlier c s a = what_in p ps args earlier c s a a.what >>= unless_refused (same_ends a.what ps args)
 
 -- The arguments of a command, from the first to the last. Each is judged beside the one before it.
 unfoldable pub refs_in : List Parameter → List Arg → (earlier : Meanings) → Bool → Scope →

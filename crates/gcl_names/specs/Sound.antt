@@ -3,9 +3,9 @@ use Rattle.std.specs.Prelude.{◌≡◌, ℕ, ℤ, ◌+◌, ◌≤◌, ◌<◌, 
 use Rattle.gcl_reader.specs.declared.word.Range.{Range}
 use Rattle.gcl_reader.specs.declared.word.Parameter.{Parameter}
 use Rattle.gcl_reader.specs.declared.word.Parameter.TheVariants as parameter
-use Rattle.gcl_reader.specs.declared.limits.TheConstants.{MOST_COMMANDS}
+use Rattle.gcl_reader.specs.declared.limits.TheConstants.{MOST_BRACES, MOST_COMMANDS}
 use Rattle.gcl_reader.specs.Table.{parameters_of, points_of, in_range}
-use Rattle.gcl_reader.specs.Fitting.{IsWord, IsSize}
+use Rattle.gcl_reader.specs.Fitting.{IsStatement, IsWithin, IsWord, IsSize}
 use Rattle.gcl_names.specs.Reference.{refers_to_circle}
 use Rattle.gcl_names.specs.Deed.{word_of, refs_of}
 use Rattle.gcl_names.specs.declared.limits.TheConstants.{MOST_POINTS, MOST_PROVES}
@@ -36,6 +36,7 @@ filled parameter.Line n = n
 filled parameter.Circle n = n
 filled parameter.Curve n = n
 filled parameter.OtherCurve n = n
+filled parameter.OtherPoint n = n
 filled (parameter.Number r) n = n
 
 -- The counts behind the arguments for all parameters.
@@ -68,6 +69,7 @@ FitsRef parameter.Line n now c (ref.Line k) = k < n.lines
 FitsRef parameter.Circle n now c (ref.Circle k) = k < n.circles
 FitsRef parameter.Curve n now c (ref.Line k) = k < n.lines
 FitsRef parameter.Curve n now c (ref.Circle k) = k < n.circles
+FitsRef parameter.OtherPoint n now c (ref.Point k) = k < n.points
 FitsRef parameter.OtherCurve n now true (ref.Line k) = k < n.lines
 FitsRef parameter.OtherCurve n now c (ref.Circle k) = k < n.circles
 FitsRef (parameter.Number r) n now c (ref.Number z) = InRange r z
@@ -82,9 +84,10 @@ FitRefs (p ∷ ps) n now c [] = ⊥
 FitRefs (p ∷ ps) n now c (r ∷ refs) = FitsRef p n now c r × FitRefs ps n (filled p now) (refers_to_circle r) refs
 
 -- What a deed uses is made, what it makes has the next number of its kind, and its values are in their ranges. A prove has
--- as many points as its statement wants.
+-- as many points as its statement wants; the parts of an equality are two terms, with no braces too deep.
 abbrev pub Follows : Counts → Deed → Type 0
-Follows n (deed.Prove s ps) = (length ps ≡ length (points_of s)) × AreMade n ps
+Follows n (deed.Prove s ps) =
+    (length ps ≡ length (points_of s)) × AreMade n ps × IsStatement s × IsWithin MOST_BRACES s
 Follows n d = IsWord (word_of d) × FitRefs (parameters_of (word_of d)) n n false (refs_of d)
 
 -- Each act follows those before it.

@@ -187,7 +187,7 @@ pub fn deed_of(alloc: Global, word: &Word, refs: &[Ref]) -> Result<Option<Deed>,
 {
     if let Word::Prove(statement) = word {
         let points = points_in(alloc, refs)?;
-        return Ok(Some(Deed::Prove(*statement, Row::from_vec(points))));
+        return Ok(Some(Deed::Prove(statement.clone()?, Row::from_vec(points))));
     }
     Ok(plain_deed(word, refs))
 }

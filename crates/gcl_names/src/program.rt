@@ -101,7 +101,7 @@ impl Clone for Deed {
             Deed::Cmark(a) => Deed::Cmark(*a),
             Deed::CmarkAt(side, a) => Deed::CmarkAt(*side, *a),
             Deed::Mark(side, a) => Deed::Mark(*side, *a),
-            Deed::Prove(statement, points) => Deed::Prove(*statement, points.clone()?),
+            Deed::Prove(statement, points) => Deed::Prove(statement.clone()?, points.clone()?),
         })
     }
 }

@@ -2,7 +2,8 @@ ghost use Rattle.std.specs.Prelude.{◌≡◌, ◌+◌, ◌≤◌, ◌<◌, ◌^
 ghost use Rattle.gcl_reader.specs.Grammar.{Gives};
 ghost use Rattle.gcl_reader.specs.declared.word.Parameter.TheVariants as parameter;
 ghost use Rattle.gcl_names.specs.Scope.{meaning_in};
-ghost use Rattle.gcl_names.specs.Reference.{ref_of, refers_to_circle, takes, used, new_point, new_line, new_circle, is_new, is_named, makes, is_made, new_name, name_in, ref_in, refs_in};
+ghost use Rattle.gcl_names.specs.Reference.{ref_of, refers_to_circle, takes, used, new_point, new_line, new_circle, is_new, is_named, makes, is_made, name_in, what_in, are_one, same_ends, ref_in, refs_in};
+ghost use Rattle.gcl_names.specs.Making.{makes_one, made_in};
 
 use crate::limits::MOST_POINTS;
 use crate::meaning::{Meaning, Ref};
@@ -30,7 +31,7 @@ fn takes(parameter: Parameter, behind_circle: bool, meaning: Meaning) -> bool
     ensures { result ≡ takes parameter behind_circle meaning }
 {
     match (parameter, meaning) {
-        (Parameter::Point, Meaning::Point(_)) => true,
+        (Parameter::Point | Parameter::OtherPoint, Meaning::Point(_)) => true,
         (Parameter::Line | Parameter::Curve, Meaning::Line(_)) => true,
         (Parameter::OtherCurve, Meaning::Line(_)) => behind_circle,
         (Parameter::Circle | Parameter::Curve | Parameter::OtherCurve, Meaning::Circle(_)) => true,
@@ -170,10 +171,9 @@ fn new_name<'f>(
     }
 }
 
-/// An argument for its parameter, in front of other parameters and arguments. The first names are those of earlier
-/// commands.
-#[tactic(auto, unfolding(crate::specs::Reference::ref_in))]
-fn ref_in<'f>(
+/// What an argument is for its parameter, in front of other parameters and arguments. The first names are those of
+/// earlier commands.
+fn what_in<'f>(
     parameter: Parameter,
     parameters_after: &[Parameter],
     args_after: &[Arg],
@@ -184,11 +184,11 @@ fn ref_in<'f>(
 ) -> Result<Ref, GclFault>
     requires lines { scope.old.lines < 2 ^ 31 }
     requires circles { scope.old.circles < 2 ^ 31 }
-    ensures lines { scope.new.lines ≤ scope.old.lines + 1 }
-    ensures circles { scope.new.circles ≤ scope.old.circles + 1 }
+    ensures lines { scope.new.lines ≤ scope.old.lines + makes_one parameter }
+    ensures circles { scope.new.circles ≤ scope.old.circles + makes_one parameter }
     ensures value { Gives (λ r. (r, scope.new)) result
-        (ref_in parameter parameters_after.now args_after.now (take first scope.old.names)
-        behind_circle scope.old arg.entry.now) }
+        (what_in parameter parameters_after.now args_after.now (take first scope.old.names)
+        behind_circle scope.old arg.entry.now arg.entry.now.what) }
 {
     let name = match &arg.what {
         What::Number(n) => return Ok(Ref::Number(*n)),
@@ -209,6 +209,66 @@ fn ref_in<'f>(
     }
 }
 
+/// Whether two arguments are one name.
+fn are_one(what: &What, other: &What) -> bool
+    ensures { result ≡ are_one what.now other.now }
+{
+    match what {
+        What::Name(name) => is_named(name, other),
+        What::Number(_) => false,
+    }
+}
+
+/// The refusal of the argument behind a point that is to be another, and is the same name.
+fn same_ends(what: &What, parameters_after: &[Parameter], args_after: &[Arg]) -> Option<Refusal>
+    ensures { result ≡ same_ends what.now parameters_after.now args_after.now }
+{
+    let [Parameter::OtherPoint, ..] = parameters_after else {
+        return None;
+    };
+    let [arg, ..] = args_after else {
+        return None;
+    };
+    if are_one(what, &arg.what) {
+        return Some(arg.span().refusal(Kind::SameEnds));
+    }
+    None
+}
+
+/// An argument for its parameter, in front of other parameters and arguments.
+#[tactic(auto, unfolding(crate::specs::Reference::ref_in))]
+fn ref_in<'f>(
+    parameter: Parameter,
+    parameters_after: &[Parameter],
+    args_after: &[Arg],
+    first: usize,
+    behind_circle: bool,
+    scope: &mut Scope<'f>,
+    arg: &'f Arg,
+) -> Result<Ref, GclFault>
+    requires lines { scope.old.lines < 2 ^ 31 }
+    requires circles { scope.old.circles < 2 ^ 31 }
+    ensures lines { scope.new.lines ≤ scope.old.lines + makes_one parameter }
+    ensures circles { scope.new.circles ≤ scope.old.circles + makes_one parameter }
+    ensures value { Gives (λ r. (r, scope.new)) result
+        (ref_in parameter parameters_after.now args_after.now (take first scope.old.names)
+        behind_circle scope.old arg.entry.now) }
+{
+    let reference = what_in(
+        parameter,
+        parameters_after,
+        args_after,
+        first,
+        behind_circle,
+        scope,
+        arg,
+    )?;
+    match same_ends(&arg.what, parameters_after, args_after) {
+        Some(refusal) => Err(GclFault::Refused(refusal)),
+        None => Ok(reference),
+    }
+}
+
 /// The arguments of a command, each for its parameter.
 pub fn refs_in<'f>(
     alloc: Global,
@@ -216,10 +276,10 @@ pub fn refs_in<'f>(
     args: &'f [Arg],
     scope: &mut Scope<'f>,
 ) -> Result<Vec<Ref>, GclFault>
-    requires lines { scope.old.lines + length parameters.now < 2 ^ 31 }
-    requires circles { scope.old.circles + length parameters.now < 2 ^ 31 }
-    ensures lines { scope.new.lines ≤ scope.old.lines + length parameters.now }
-    ensures circles { scope.new.circles ≤ scope.old.circles + length parameters.now }
+    requires lines { scope.old.lines + made_in parameters.now < 2 ^ 31 }
+    requires circles { scope.old.circles + made_in parameters.now < 2 ^ 31 }
+    ensures lines { scope.new.lines ≤ scope.old.lines + made_in parameters.now }
+    ensures circles { scope.new.circles ≤ scope.old.circles + made_in parameters.now }
     ensures value { Gives (λ v. (v.items, scope.new)) result
         (refs_in parameters.now args.entry.now scope.old.names false scope.old) }
 {

@@ -47,7 +47,7 @@ fn act_with(command: &Command, deed: Option<Deed>) -> Option<Act>
 }
 
 /// The act of a command, behind the commands that made the scope.
-#[tactic(auto, unfolding(crate::specs::Program::act_in))]
+#[tactic(auto, using(crate::proofs::FewMade::few_made), unfolding(crate::specs::Program::act_in))]
 fn act_in<'f>(
     alloc: Global,
     command: &'f Command,
@@ -60,8 +60,8 @@ fn act_in<'f>(
     ensures value { Gives (λ a. (a, scope.new)) result (act_in command.entry.now scope.old) }
 {
     count_prove(command, scope)?;
-    let parameters = parameters_of(&command.word);
-    let refs = refs_in(alloc, parameters, command.args.as_slice(), scope)?;
+    let parameters = parameters_of(alloc, &command.word)?;
+    let refs = refs_in(alloc, parameters.as_slice(), command.args.as_slice(), scope)?;
     let deed = deed_of(alloc, &command.word, refs.as_slice())?;
     Ok(act_with(command, deed))
 }

@@ -1,8 +1,8 @@
-use Rattle.std.proofs.Common.{◌∙◌, arith, false}
+use Rattle.std.proofs.Common.{◌∙◌, false}
 use Rattle.std.proofs.lemmas.Result.{err_from_is_err_and}
-use Rattle.std.proofs.lemmas.List.{length-take, length-drop}
 use Rattle.gcl_names.specs.Reference.{refs_in}
 use Rattle.gcl_names.proofs.Front.{refs-more, refs-fail, refs-done, refs-short}
+use Rattle.gcl_names.proofs.FewMade.{made-kept}
 use Rattle.gcl_names.proofs.Kept.{kept}
 use Rattle.gcl_names.proofs.reference.refs_in.Goals as goal
 
@@ -21,8 +21,8 @@ loop-rest_parameters-preserved c = let s = c.loop-rest_parameters in
     let k = c.in-len1-up-rest_args.len_at_least in
     let m = c.in-len1-up.len_at_least in
     let v = rw s.invariant.earlier at c.in_ok-reference.ensures.value in record {
-      lines = simp (length-take, length-drop) (omega (arith, c.in_ok-reference.ensures.lines, s.invariant.lines, m));
-      circles = simp (length-take, length-drop) (omega (arith, c.in_ok-reference.ensures.circles, s.invariant.circles, m));
+      lines = made-kept _ s.rest_parameters.now _ _ _ m c.in_ok-reference.ensures.lines s.invariant.lines;
+      circles = made-kept _ s.rest_parameters.now _ _ _ m c.in_ok-reference.ensures.circles s.invariant.circles;
       earlier = rw c.len-first.ensures (kept c.args.scope.now.names _ _ _ c.args.scope.now.names s.behind_circle s.scope c.ref_in.new.scope c.arg-item.result c.in_ok-reference.reference (rw c.len-first.ensures at s.invariant.earlier) v);
       resolved = rw (c.in_ok-push.ensures.items, c.refers_to_circle-behind_circle.ensures) (refs-more s.refs.items _ s.rest_parameters.now c.arg-item.result s.rest_args.now c.args.scope.now.names s.behind_circle s.scope c.ref_in.new.scope c.in_ok-reference.reference
           m k c.arg-item.is v ∙ s.invariant.resolved);
