@@ -1,11 +1,11 @@
 -- What divides out of an equation, on which variable a node is parted, and which condition an equation reduces to 0.
 use Rattle.std.proofs.Common.{◌≡◌, ◌≢◌, ℕ, ◌-◌, ◌<◌, ◌≤◌, List, [], ◌∷◌, length, refl, sym, ◌∙◌, ap, arith, Bool, true, false, ◌&&◌, not}
 use Rattle.std.specs.Prelude.{◌==◌, Option, Some, None, is_none, is_some, nat_lt, unwrap_or, if◌then◌else◌}
-use Rattle.std.proofs.lemmas.Bool.{and_parts, and_from, not_from_false, eqb-true, eq-eqb, ne_eqb, lt-ltb, ltb-true}
+use Rattle.std.proofs.lemmas.Bool.{and_parts, and_from, not_from_false, eq-eqb, ne_eqb, lt-ltb, ltb-true}
 use mathlib.Core.Bool.{and-true}
 use Rattle.poly_model.specs.Polynomial.{Polynomial, poly_variable}
-use Rattle.poly_model.specs.Powers.{has_factor, is_divided, is_factor, is_variable, one_monomial, shares_variable, variable_in, without_variables}
-use Rattle.poly_model.specs.Reduction.{class_of, is_constant, is_zero, main_place, reaches, reduction_of, same}
+use Rattle.poly_model.specs.Powers.{has_factor, is_divided, is_factor, is_variable, variable_in}
+use Rattle.poly_model.specs.Reduction.{class_of, is_constant, main_place, reaches, reduction_of, same}
 use Rattle.poly_model.specs.Standard.{is_standard, polynomial_of}
 use Rattle.poly_model.specs.declared.limits.TheConstants.{MOST_LETTERS, MOST_VARIABLES}
 use Rattle.poly_model.specs.declared.limits.Reason.TheVariants.{Depth}

@@ -1,4 +1,4 @@
-use Rattle.std.proofs.Common.{ℕ, sym, subst, IfOk}
+use Rattle.std.proofs.Common.{sym, subst, IfOk}
 use Rattle.proof_steps.specs.Rules.{is_valid, reason_of}
 use Rattle.proof_steps.specs.declared.step.Attempt.TheVariants as attempt
 use Rattle.log_checker.specs.Trials.{Stops}

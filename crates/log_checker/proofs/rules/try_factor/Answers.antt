@@ -1,4 +1,4 @@
-use Rattle.std.proofs.Common.{◌≡◌, ◌∙◌, ap, sym, arith, not}
+use Rattle.std.proofs.Common.{◌∙◌, ap, sym, arith, not}
 use Rattle.std.specs.Prelude.{is_some}
 use Rattle.poly_model.specs.Reduction.{is_constant}
 use Rattle.proof_steps.specs.Numbers.{item, has}
