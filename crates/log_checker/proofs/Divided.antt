@@ -24,39 +24,6 @@ use Rattle.log_checker.proofs.Terms.{one-more}
 use Rattle.log_checker.specs.Trials.{IsCancelPair, IsLeastFactor, leaves_nothing, may_reduce}
 
 -- ---- cancel
-pub cancel-pair : (version : ℕ) (n : Node) (g q : ℕ) (p by : Polynomial) → has_second version ≡ true → has n.eqs g ≡ true → p ≡ item n.eqs g → has n.nes q ≡ true → by ≡ item n.nes q
-    → is_constant p ≡ false → cancels_in by p ≡ true → IsCancelPair version n g q p by
-cancel-pair version n g q p by second hg there hq here some c = record {
-  valid = and_from (has_second version && (has n.eqs g && has n.nes q)) _ (and_from (has_second version) _ second (and_from (has n.eqs g) _ hg hq))
-      (sym (λ i. not (is_constant (there i)) && cancels_in (here i) (there i)) ∙ and_from (not (is_constant p)) (cancels_in by p) (not_from_false (is_constant p) some) c);
-  equation = there;
-  condition = here;
-  one = one-term by p (and_parts (not (is_constant by)) _ c).1;
-  some = λ e. (let h : true ≡ false = sym (ap is_constant e) ∙ some in cc);
-}
-
--- a cancel that is not valid, by the first test that fails
-pub cancel-first : (a b c d : Bool) → a ≡ false → ((a && (b && c)) && d) ≡ false
-cancel-first false b c d e = refl
-cancel-first true b c d e = cc
-
-pub cancel-equation : (a b c d : Bool) → b ≡ false → ((a && (b && c)) && d) ≡ false
-cancel-equation false b c d e = refl
-cancel-equation true false c d e = refl
-cancel-equation true true c d e = cc
-
-pub cancel-condition : (a b c d : Bool) → c ≡ false → ((a && (b && c)) && d) ≡ false
-cancel-condition false b c d e = refl
-cancel-condition true false c d e = refl
-cancel-condition true true false d e = refl
-cancel-condition true true true d e = cc
-
-pub cancel-last : (a b c d : Bool) → d ≡ false → ((a && (b && c)) && d) ≡ false
-cancel-last false b c d e = refl
-cancel-last true false c d e = refl
-cancel-last true true false d e = refl
-cancel-last true true true d e = e
-
 pub cancel-has : (version : ℕ) (n : Node) (g q : ℕ) → is_valid version n (attempt.Cancel g q) ≡ true → has n.eqs g ≡ true
 cancel-has version n g q v =
     (and_parts (has n.eqs g) (has n.nes q) (and_parts (has_second version) _ (and_parts (has_second version && (has n.eqs g && has n.nes q)) _ v).0).1).0
@@ -99,22 +66,11 @@ variable-factor p v sp sv some below = by (is_variable v) refl
         sym ((λ i. (lt-ltb (class_of v) (class_of p) below i && is_divided (main_place v) p) && told i) ∙ and-true (is_divided (main_place v) p))
 
 -- ---- factor
-pub no-factor : (a b c d : Bool) → (b && c) ≡ false → false ≡ ((a && b) && (c && d))
-no-factor false b c d e = refl
-no-factor true false c d e = refl
-no-factor true true false d e = refl
-no-factor true true true d e = cc
-
 pub some-factor : (a b c d : Bool) → (b && c) ≡ true → (a && d) ≡ ((a && b) && (c && d))
 some-factor false b c d e = refl
 some-factor true false c d e = cc
 some-factor true true false d e = cc
 some-factor true true true d e = refl
-
-pub may_factor-is : (version : ℕ) (n : Node) (f : ℕ) (p v : Polynomial) → (has n.eqs f && not (is_constant (item n.eqs f))) ≡ true → p ≡ item n.eqs f
-    → (has_second version && has_factor p v) ≡ may_factor version n f v
-may_factor-is version n f p v h is =
-    ap (λ r. has_second version && has_factor r v) is ∙ some-factor (has_second version) (has n.eqs f) (not (is_constant (item n.eqs f))) (has_factor (item n.eqs f) v) h
 
 -- the least variable, by its number
 pub least-valid : (version : ℕ) (n : Node) (f : ℕ) → has_second version ≡ true → (has n.eqs f && not (is_constant (item n.eqs f))) ≡ true → is_some (least_factor (item n.eqs f)) ≡ true
@@ -180,24 +136,6 @@ pub no-depth : (n : Node) → (length n.path ≡ MOST_LETTERS → ⊥) → depth
 no-depth n deep = ap (λ x. if x then Some Depth else None) (ne_eqb (length n.path) MOST_LETTERS deep)
 
 -- ---- void
-pub void-none : (a b k r c z : Bool) → (b && (k && r)) ≡ false → false ≡ (a && ((b && k) && ((c && r) && z)))
-void-none false b k r c z h = refl
-void-none true false k r c z h = refl
-void-none true true false r c z h = refl
-void-none true true true false true z h = refl
-void-none true true true false false z h = refl
-void-none true true true true c z h = cc
-
-pub void-class : (a b c r z : Bool) → c ≡ false → false ≡ (a && (b && ((c && r) && z)))
-void-class false b c r z e = refl
-void-class true false c r z e = refl
-void-class true true false r z e = refl
-void-class true true true r z e = cc
-
-pub void-first : (a b c d z : Bool) → a ≡ false → false ≡ ((a && (b && c)) && z)
-void-first false b c d z e = refl
-void-first true b c d z e = cc
-
 empty-is : (xs : List Term) → (length xs == 0) ≡ same (polynomial_of xs) []
 empty-is [] = refl
 empty-is (x ∷ xs) = one-more (length xs)
@@ -205,18 +143,3 @@ empty-is (x ∷ xs) = one-more (length xs)
 pub nothing-left : (g f r : Polynomial) (xs : List Term) → reduction_limit g f ≡ None → r ≡ (reduction_of g f).1 → polynomial_of xs ≡ r → (length xs == 0) ≡ leaves_nothing g f
 nothing-left g f r xs l is told =
     empty-is xs ∙ ap (λ p. same p []) (told ∙ is) ∙ sym (ap (λ o. is_none o && same (reduction_of g f).1 []) l)
-
-pub limit-left : (g f : Polynomial) (why : Rattle.poly_model.specs.declared.limits.Reason.Reason) → reduction_limit g f ≡ Some why → false ≡ leaves_nothing g f
-limit-left g f why l = sym (ap (λ o. is_none o && same (reduction_of g f).1 []) l)
-
-pub void-is : (version : ℕ) (n : Node) (j f : ℕ) (q p : Polynomial) (b : Bool) → has_second version ≡ true → has n.nes j ≡ true → q ≡ item n.nes j → has n.eqs f ≡ true → p ≡ item n.eqs f
-    → class_of q ≡ class_of p → may_reduce n.nes q p ≡ true → b ≡ leaves_nothing q p → b ≡ is_void version n j f
-void-is version n j f q p b second hj here hf there class reduce is =
-    let Q = item n.nes j in
-    let P = item n.eqs f in
-    let may : may_reduce n.nes Q P ≡ true = sym (λ i. may_reduce n.nes (here i) (there i)) ∙ reduce in
-    let some = (and_parts (not (is_constant P)) (has_known_initial n.nes P && reaches Q P) may).0 in
-    let known = and_parts (has_known_initial n.nes P) (reaches Q P) (and_parts (not (is_constant P)) _ may).1 in
-    let level : (class_of Q == class_of P) ≡ true = eq-eqb (class_of Q) (class_of P) (sym (ap class_of here) ∙ class ∙ ap class_of there) in
-    is ∙ (λ i. leaves_nothing (here i) (there i))
-    ∙ sym (λ i. (second i && (hj i && hf i)) && ((some i && known.0 i) && ((level i && known.1 i) && leaves_nothing Q P)))

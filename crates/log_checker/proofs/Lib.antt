@@ -5,6 +5,7 @@ mod Nodes
 mod Trying
 mod Fitness
 mod Divided
+mod Excluding
 pub mod Inside
 pub mod Fits
 mod Running
