@@ -1,7 +1,6 @@
-use Rattle.std.proofs.Common.{◌≡◌, ◌≤◌, [], refl, sym, ◌∙◌, ap, subst, arith, true}
+use Rattle.std.proofs.Common.{◌≤◌, [], refl, subst, arith}
 use Rattle.std.specs.Prelude.{None, Some}
-use Rattle.proof_steps.specs.Rules.{is_valid, made, size_of}
-use Rattle.proof_steps.specs.Work as work
+use Rattle.proof_steps.specs.Rules.{made, size_of}
 use Rattle.proof_steps.specs.declared.piece.Outcome.TheVariants as outcome
 use Rattle.workbench.specs.Standing.{beneath, node_at}
 use Rattle.workbench.specs.Splitting.{Parts}
