@@ -1,27 +1,26 @@
 -- What divides out of an equation, on which variable a node is parted, and which condition an equation reduces to 0.
 use Rattle.std.proofs.Common.{◌≡◌, ◌≢◌, ℕ, ◌-◌, ◌<◌, ◌≤◌, List, [], ◌∷◌, length, refl, sym, ◌∙◌, ap, arith, Bool, true, false, ◌&&◌, not}
 use Rattle.std.specs.Prelude.{◌==◌, Option, Some, None, is_none, is_some, nat_lt, unwrap_or, if◌then◌else◌}
-use Rattle.std.proofs.lemmas.Bool.{and_parts, and_from, not_from_false, eq-eqb, ne_eqb, lt-ltb, ltb-true}
+use Rattle.std.proofs.lemmas.Bool.{and_parts, and_from, not_from_false, ne_eqb, lt-ltb, ltb-true}
 use mathlib.Core.Bool.{and-true}
 use Rattle.poly_model.specs.Polynomial.{Polynomial, poly_variable}
 use Rattle.poly_model.specs.Powers.{has_factor, is_divided, is_factor, is_variable, variable_in}
-use Rattle.poly_model.specs.Reduction.{class_of, is_constant, main_place, reaches, reduction_of, same}
+use Rattle.poly_model.specs.Reduction.{class_of, is_constant, main_place, reduction_of, same}
 use Rattle.poly_model.specs.Standard.{is_standard, polynomial_of}
 use Rattle.poly_model.specs.declared.limits.TheConstants.{MOST_LETTERS, MOST_VARIABLES}
 use Rattle.poly_model.specs.declared.limits.Reason.TheVariants.{Depth}
 use Rattle.poly_model.specs.declared.term.Term.{Term}
 use Rattle.poly_model.proofs.Within.{within-of}
 use Rattle.proof_steps.specs.Numbers.{item, has}
-use Rattle.proof_steps.specs.Rules.{depth_limit, has_known_initial, has_second, is_valid, is_void, least_factor, least_variable, reduction_limit}
-use Rattle.proof_steps.specs.Trees.{may_factor}
+use Rattle.proof_steps.specs.Rules.{depth_limit, has_second, is_valid, least_factor, least_variable, reduction_limit}
 use Rattle.proof_steps.specs.declared.piece.Node.{Node}
 use Rattle.proof_steps.specs.declared.step.Attempt.TheVariants as attempt
 use Rattle.proof_steps.proofs.Factors.{least-has}
 use Rattle.proof_steps.proofs.Search.{first_from-passes}
-use Rattle.workbench.specs.Known.{cancels_in, factor_number, variable_number}
-use Rattle.workbench.proofs.Tried.{factored, one-term}
+use Rattle.workbench.specs.Known.{factor_number, variable_number}
+use Rattle.workbench.proofs.Tried.{factored}
 use Rattle.log_checker.proofs.Terms.{one-more}
-use Rattle.log_checker.specs.Trials.{IsCancelPair, IsLeastFactor, leaves_nothing, may_reduce}
+use Rattle.log_checker.specs.Trials.{IsLeastFactor, leaves_nothing}
 
 -- ---- cancel
 pub cancel-has : (version : ℕ) (n : Node) (g q : ℕ) → is_valid version n (attempt.Cancel g q) ≡ true → has n.eqs g ≡ true

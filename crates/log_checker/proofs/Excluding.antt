@@ -1,6 +1,6 @@
 -- What a line of a rule of the second version cannot do at a node where it fits.
 use Rattle.std.proofs.Common.{◌≡◌, ℕ, zero, suc, ◌+◌, ◌-◌, ◌<◌, List, [], ◌∷◌, length, get_or, refl, sym, ◌∙◌, ap, arith, Bool, true, false, ◌&&◌, ◌||◌, not}
-use Rattle.std.specs.Prelude.{◌==◌, set, Option, Some, None, unwrap_or}
+use Rattle.std.specs.Prelude.{◌==◌, set, Some, None, unwrap_or}
 use Rattle.std.proofs.lemmas.Bool.{and_parts, eqb-false, not-true}
 use Rattle.poly_model.specs.Polynomial.{Polynomial}
 use Rattle.poly_model.specs.Equality.{same-is}
@@ -10,7 +10,6 @@ use Rattle.proof_steps.specs.Numbers.{item, has, replaced}
 use Rattle.proof_steps.specs.Reasons.{same_reason}
 use Rattle.proof_steps.specs.Rules.{has_known_initial, has_second, is_valid, is_void, depth_limit, factor_children, minus_child, plus_child, reason_for, reason_of, stepped, tells_result}
 use Rattle.proof_steps.specs.Trees.{may_factor, step_fits}
-use Rattle.proof_steps.specs.declared.piece.Node.{Node}
 use Rattle.proof_steps.specs.declared.step.Attempt.TheVariants as attempt
 use Rattle.proof_steps.specs.declared.step.Step.TheVariants as step
 use Rattle.verdicts.specs.Tallies.{Empty, Parts}
