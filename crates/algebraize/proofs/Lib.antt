@@ -17,3 +17,4 @@ pub mod Stated
 pub mod Effects
 pub mod OtherWords
 pub mod Ratios
+pub mod Equalities

@@ -7,14 +7,18 @@ use Rattle.poly_model.specs.Values as values
 use Rattle.poly_model.specs.Zeros.{AllZero}
 use Rattle.poly_model.specs.declared.limits.TheConstants.{MOST_VARIABLES}
 use Rattle.poly_model.proofs.Contents.{AllZero-primitive_parts}
+use Rattle.std.specs.List.{AllZip}
+use Rattle.ratio_eq.specs.Laws.{HasValues}
 use Rattle.gcl_reader.specs.declared.word.Statement.{Statement}
+use Rattle.gcl_reader.specs.declared.word.Statement.TheVariants as statement
+use Rattle.algebraize.proofs.Equalities.{terms-alike, equality-means}
 use Rattle.gcl_names.specs.declared.program.Act.{Act}
 use Rattle.algebraize.specs.declared.layout.Coordinate.{Coordinate}
 use Rattle.algebraize.specs.declared.layout.Coordinate.TheVariants as coordinate
 use Rattle.algebraize.specs.Curves.{Curves, no_curves}
-use Rattle.algebraize.specs.Figure.{Figure, effect, conditions, with_effect, conditions_from, conclusion, AreZero, MeetsFrom}
+use Rattle.algebraize.specs.Figure.{Figure, effect, conditions, with_effect, conditions_from, conclusion, terms_at, AreZero, MeetsFrom, MeetsStatement}
 use Rattle.algebraize.specs.Layout.{IsBelow, AreBelow, layout_of, coordinate_at, place_at, figure_at}
-use Rattle.algebraize.specs.Equations.{polynomials, coordinate_polynomial, places_of, general_figure, expressions_of, equations_of, Mean}
+use Rattle.algebraize.specs.Equations.{polynomials, coordinate_polynomial, places_of, general_figure, expressions_of, stated_conclusions, general_terms, conclusions_of, equations_of, Mean}
 use Rattle.algebraize.proofs.Places.{coordinates_own}
 use Rattle.algebraize.proofs.Related as related
 use Rattle.algebraize.proofs.Related.{IsKept}
@@ -72,6 +76,30 @@ module _ {M : Type 0} {o : Operations M} (L : IsDomain o) where
       → related.FigureKept (kept point) (general_figure (layout_of acts)) (figure_at o acts point)
   figure-value point acts le = places-value point (length (layout_of acts).variables) (layout_of acts).places le (coordinates_own acts)
 
+  -- places that have the values of others, as a list
+  with-values : (point : List M) (f : Figure Polynomial) (g : Figure M) → related.FigureKept (kept point) f g → AllZip (HasValues o point) f g
+  with-values point [] [] h = tt
+  with-values point [] (q ∷ g) h = absurd h
+  with-values point (p ∷ f) [] h = absurd h
+  with-values point (p ∷ f) (q ∷ g) h = (h.0, with-values point f g h.1)
+
+  stated-mean : (acts : List Act) (s : Statement) (points : List ℕ) (point : List M) → length (layout_of acts).variables ≤ MOST_VARIABLES →
+      AllZero o (stated_conclusions acts s points) point ↔ AreZero o (conclusion o (figure_at o acts point) s points)
+  stated-mean acts s points point le =
+      let f = figure-value point acts le in
+      let e = conclusion polynomials (general_figure (layout_of acts)) s points in
+      let parts = AllZero-primitive_parts L e point in
+      let zeros = zero-values point e (conclusion o (figure_at o acts point) s points) (related.kept-conclusion (kept point) _ _ s points f) in
+      ((λ z. zeros.0 (parts.1 z)), (λ m. parts.0 (zeros.1 m)))
+
+  conclusions-mean : (acts : List Act) (s : Statement) (points : List ℕ) (point : List M) → length (layout_of acts).variables ≤ MOST_VARIABLES →
+      AllZero o (conclusions_of acts s points) point ↔ MeetsStatement o (figure_at o acts point) s points
+  conclusions-mean acts (statement.Equal parts) points point le =
+      let places = related.places (kept point) _ _ points (figure-value point acts le) in
+      equality-means L point (general_terms acts parts points) (terms_at o (figure_at o acts point) parts points)
+      (terms-alike (HasValues o point) parts _ _ (with-values point _ _ places))
+  conclusions-mean acts s points point le = stated-mean acts s points point le
+
   -- The equations of a figure mean what it constructs and states.
   pub equations_mean : (acts : List Act) (s : Statement) (points : List ℕ) → length (layout_of acts).variables ≤ MOST_VARIABLES → Mean o acts s points (equations_of acts s points)
   equations_mean acts s points le = record {
@@ -82,10 +110,5 @@ module _ {M : Type 0} {o : Operations M} (L : IsDomain o) where
         (related.kept-acts (kept point) _ _ no_curves no_curves acts f (related.none-kept (kept point))) in
         let meets = zero-meets (figure_at o acts point) no_curves acts in
         ((λ z. meets.0 (zeros.0 (parts.1 z))), (λ m. parts.0 (zeros.1 (meets.1 m))));
-    conclusions = λ point.
-        let f = figure-value point acts le in
-        let e = conclusion polynomials (general_figure (layout_of acts)) s points in
-        let parts = AllZero-primitive_parts L e point in
-        let zeros = zero-values point e (conclusion o (figure_at o acts point) s points) (related.kept-conclusion (kept point) _ _ s points f) in
-        ((λ z. zeros.0 (parts.1 z)), (λ m. parts.0 (zeros.1 m)));
+    conclusions = λ point. conclusions-mean acts s points point le;
   }

@@ -307,8 +307,9 @@ module _ {M N : Type 0} {o : Operations M} {k : Operations N} {R : M → N → T
   kept-stated statement.Parallel = kept-four _ _ (λ a b c d t u v w p q r s. (one-cross _ _ _ _ (both-minus b a u t q p) (both-minus d c w v s r), tt))
   kept-stated statement.Midpoint = kept-three _ _ kept-midpoint
   kept-stated statement.SameLength = kept-four _ _ (λ a b c d t u v w p q r s. (one-sq_difference _ _ _ _ (both-minus b a u t q p) (both-minus d c w v s r), tt))
+  kept-stated (statement.Equal parts) = λ ps qs h. (K.one, tt)
 
-  places : (f : Figure M) (g : Figure N) (points : List ℕ) → FigureKept f g → FigureKept (map (place_of o f) points) (map (place_of k g) points)
+  pub places : (f : Figure M) (g : Figure N) (points : List ℕ) → FigureKept f g → FigureKept (map (place_of o f) points) (map (place_of k g) points)
   places f g [] h = tt
   places f g (p ∷ points) h = (place f g p h, places f g points h)
 

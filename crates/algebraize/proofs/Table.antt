@@ -253,6 +253,7 @@ module _ {Sized : ℤ → Type 0} {Place Way : Vector Polynomial → Type 0} {Fi
   stated-fine statement.Perpendicular = stated-four _ (λ a b c d ha hb hc hd. one _ (B.across _ _ (B.between a b ha hb) (B.between c d hc hd)))
   stated-fine statement.Parallel = stated-four _ (λ a b c d ha hb hc hd. one _ (B.along _ _ (B.between a b ha hb) (B.between c d hc hd)))
   stated-fine statement.Midpoint = stated-three _ (λ m a b hm ha hb. two _ (B.midpoint m a b hm ha hb))
+  stated-fine (statement.Equal parts) = λ ps h. one-impossible
   stated-fine statement.SameLength = stated-four _ (λ a b c d ha hb hc hd. one _ (B.longer _ _ (B.between a b ha hb) (B.between c d hc hd)))
 
   pub conclusion-fine : (f : Figure Polynomial) (s : Statement) (points : List ℕ) → FigureFits f → IsConclusion (conclusion polynomials f s points)

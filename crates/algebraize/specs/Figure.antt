@@ -1,6 +1,9 @@
 -- Figures over a domain, and when they meet what a program constructs and states.
 use Rattle.std.specs.Prelude.{◌≡◌, ℕ, pos, List, [], ◌∷◌, ◌++◌, get_or, map}
 use Rattle.poly_model.specs.Domain.{Operations}
+use Rattle.ratio_terms.specs.declared.part.Part.{Part}
+use Rattle.ratio_terms.specs.Terms.{Term, terms_of}
+use Rattle.ratio_eq.specs.Fractions.{MeetsEqual}
 use Rattle.gcl_reader.specs.declared.word.Statement.{Statement}
 use Rattle.gcl_reader.specs.declared.word.Statement.TheVariants as statement
 use Rattle.gcl_names.specs.declared.program.Act.{Act}
@@ -98,7 +101,7 @@ abbrev pub over_four : {M : Type 0} → Operations M → (Vector M → Vector M 
 over_four o says (a ∷ b ∷ c ∷ d ∷ []) = says a b c d
 over_four o says _ = impossible o
 
--- The members that a statement over places says are zero.
+-- The members that a statement over places says are zero. An equality of terms says something else, below.
 abbrev pub stated : {M : Type 0} → Operations M → Statement → List (Vector M) → List M
 stated o statement.Identical = over_two o (row.identical o)
 stated o statement.Collinear = over_three o (row.collinear o)
@@ -106,6 +109,7 @@ stated o statement.Perpendicular = over_four o (row.perpendicular o)
 stated o statement.Parallel = over_four o (row.parallel o)
 stated o statement.Midpoint = over_three o (row.midpoint o)
 stated o statement.SameLength = over_four o (row.same_length o)
+stated o (statement.Equal parts) = λ places. impossible o
 
 -- The members that a statement over points says are zero.
 abbrev pub conclusion : {M : Type 0} → Operations M → Figure M → Statement → List ℕ → List M
@@ -126,8 +130,18 @@ MeetsFrom o f c (a ∷ acts) =
 abbrev pub Meets : {M : Type 0} → Operations M → Figure M → List Act → Type 0
 Meets o f acts = MeetsFrom o f no_curves acts
 
+-- The terms of an equality, over the places of points.
+abbrev pub terms_at : {M : Type 0} → Operations M → Figure M → List Part → List ℕ → List (Term (Vector M))
+terms_at o f parts points = terms_of parts (map (place_of o f) points)
+
+-- Two terms have equal fractions, or one divides by a square that is zero. No figure meets another number of terms.
+abbrev pub MeetsTerms : {M : Type 0} → Operations M → List (Term (Vector M)) → Type 0
+MeetsTerms o (s ∷ t ∷ []) = MeetsEqual o s t
+MeetsTerms o ts = o.one ≡ o.zero
+
 -- The figure meets a statement over points.
 abbrev pub MeetsStatement : {M : Type 0} → Operations M → Figure M → Statement → List ℕ → Type 0
+MeetsStatement o f (statement.Equal parts) points = MeetsTerms o (terms_at o f parts points)
 MeetsStatement o f s points = AreZero o (conclusion o f s points)
 
 -- The members that the acts make zero, in their order.

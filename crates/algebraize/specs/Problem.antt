@@ -4,13 +4,20 @@ use Rattle.poly_model.specs.Domain.{Operations}
 use Rattle.poly_model.specs.declared.limits.TheConstants.{MOST_VARIABLES}
 use Rattle.gcl_reader.specs.Grammar.{◌>>=◌}
 use Rattle.gcl_reader.specs.declared.word.Statement.{Statement}
+use Rattle.gcl_reader.specs.declared.word.Statement.TheVariants as statement
+use Rattle.gcl_reader.specs.Fitting.{IsStatement}
+use Rattle.poly_model.specs.Polynomial.{Polynomial}
+use Rattle.poly_model.specs.declared.limits.Limit.{Limit}
+use Rattle.ratio_terms.specs.Terms.{Term}
+use Rattle.ratio_eq.specs.Bounded.{bounded_conclusion}
 use Rattle.gcl_reader.specs.declared.refusal.Kind.TheVariants as kind
 use Rattle.gcl_reader.specs.declared.refusal.Refusal.{Refusal}
 use Rattle.gcl_names.specs.declared.program.Act.{Act}
 use Rattle.gcl_names.specs.declared.program.Deed.{Deed}
 use Rattle.gcl_names.specs.declared.program.Deed.TheVariants as deed
 use Rattle.algebraize.specs.Layout.{Layout, layout_of}
-use Rattle.algebraize.specs.Equations.{Equations, equations_of, Mean}
+use Rattle.algebraize.specs.Vectors.{Vector}
+use Rattle.algebraize.specs.Equations.{Equations, Mean, polynomials, hypotheses_of, stated_conclusions, general_terms}
 
 -- A prove is refused for its variables, at its word.
 abbrev pub too_many_variables : Act → Refusal
@@ -21,9 +28,35 @@ abbrev pub laid_out : List Act → Act → Result Layout Refusal
 laid_out before prove =
     if nat_le (length (layout_of before).variables) MOST_VARIABLES then Ok (layout_of before) else Err (too_many_variables prove)
 
--- The equations of a prove behind these acts.
+-- A prove is refused where forming its conclusion meets a limit of polynomials, at its word.
+abbrev pub conclusion_limit : Act → Refusal
+conclusion_limit a = record { line = a.line; kind = kind.ConclusionLimit; at = a.at; len = a.len }
+
+-- The conclusion of the terms of an equality within the limits, or the limit that forming it meets first.
+abbrev pub bounded_equality_of : List (Term (Vector Polynomial)) → Result Polynomial Limit
+bounded_equality_of (s ∷ t ∷ []) = bounded_conclusion s t
+bounded_equality_of ts = Ok polynomials.one
+
+abbrev pub or_refused : Act → Result Polynomial Limit → Result (List Polynomial) Refusal
+or_refused prove (Ok p) = Ok (p ∷ [])
+or_refused prove (Err l) = Err (conclusion_limit prove)
+
+-- The conclusions of a prove behind these acts.
+abbrev pub concluded_at : List Act → Act → Statement → List ℕ → Result (List Polynomial) Refusal
+concluded_at before prove (statement.Equal parts) points = or_refused prove (bounded_equality_of (general_terms before parts points))
+concluded_at before prove s points = Ok (stated_conclusions before s points)
+
+-- The equations of a prove behind these acts, with these conclusions.
+abbrev pub equations_with : List Act → List Polynomial → Equations
+equations_with before cons =
+    record { variables = (layout_of before).variables; hypotheses = hypotheses_of before; conclusions = cons }
+
+-- The equations of a prove behind these acts: too many variables stand before a limit of the conclusion.
 unfoldable pub problem_at : List Act → Act → Statement → List ℕ → Result Equations Refusal
-problem_at before prove s points = laid_out before prove >>= λ l. Ok (equations_of before s points)
+problem_at before prove s points = do
+  _ ← laid_out before prove
+  cons ← concluded_at before prove s points
+  Ok (equations_with before cons)
 
 abbrev pub is_prove : Deed → Bool
 is_prove (deed.Prove s points) = true
@@ -70,7 +103,7 @@ abbrev pub problems_of : List Act → Result (List Equations) Refusal
 problems_of acts = problems_from acts 0 (proves_in acts)
 
 abbrev pub MeanDeed : {M : Type 0} → Operations M → List Act → Deed → Equations → Type 0
-MeanDeed o before (deed.Prove s points) e = Mean o before s points e
+MeanDeed o before (deed.Prove s points) e = IsStatement s → Mean o before s points e
 MeanDeed o before _ e = Unit {0}
 
 abbrev pub MeanBetween : {M : Type 0} → Operations M → List Act → List Act → Equations → Type 0

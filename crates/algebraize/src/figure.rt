@@ -290,6 +290,7 @@ impl Figure {
                 [m, a, b] => rows::midpoint(alloc, self.place(*m), self.place(*a), self.place(*b)),
                 _ => rows::impossible(alloc),
             },
+            Statement::Equal(_) => rows::impossible(alloc),
             Statement::SameLength => match points {
                 [a, b, c, d] => rows::same_length(
                     alloc,
