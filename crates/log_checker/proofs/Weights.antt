@@ -1,5 +1,5 @@
 -- Sizes of nodes as numbers of four bytes.
-use Rattle.std.proofs.Common.{◌≡◌, ℕ, ◌+◌, ◌-◌, ◌^◌, ◌≤◌, List, [], ◌∷◌, ◌++◌, refl, sym, ◌∙◌, ap, arith, Bool, true, false, nat_le}
+use Rattle.std.proofs.Common.{◌≡◌, ℕ, ◌+◌, ◌-◌, ◌^◌, ◌≤◌, List, [], ◌∷◌, ◌++◌, length, refl, sym, ◌∙◌, ap, arith, Bool, true, false, nat_le}
 use Rattle.std.specs.Prelude.{min, reverse, if◌then◌else◌, Option, Some, None}
 use Rattle.std.proofs.lemmas.Bool.{leb-true, leb-false}
 use Rattle.std.proofs.lemmas.List.{reverse-append}
@@ -32,7 +32,7 @@ pub both : (n m s a b k : ℕ) → IsUpTo n a → IsUpTo m b → s ≡ min (n + 
 both n m s a b k e f is sum = omega (arith, e, f, is, sum)
 
 node_sizes_append : (ms ns : List Node) → node_sizes (ms ++ ns) ≡ node_sizes ms + node_sizes ns
-node_sizes_append [] ns = refl
+node_sizes_append [] ns = omega arith
 node_sizes_append (m ∷ ms) ns = let h = node_sizes_append ms ns in omega (arith, h)
 
 pub node_sizes_reverse : (ns : List Node) → node_sizes (reverse ns) ≡ node_sizes ns
@@ -41,6 +41,10 @@ node_sizes_reverse (n ∷ ns) =
     let turned = ap node_sizes (reverse-append (n ∷ []) ns) in
     let parts = node_sizes_append (reverse ns) (n ∷ []) in
     let h = node_sizes_reverse ns in omega (arith, turned, parts, h)
+
+pub none-left : (ns : List Node) → length ns ≡ 0 → node_sizes ns ≡ 0
+none-left [] e = refl
+none-left (n ∷ ns) e = absurd (omega (arith, e))
 
 -- ---- a leaf whose lists are whole
 pub whole_held : (eqs nes : List Polynomial) (e : Ending) (leaf : ℕ) (whole : Bool)
