@@ -1,9 +1,8 @@
 -- The answer that is due where a figure is carried.
-use Rattle.std.proofs.Common.{◌≡◌, ◌≤◌, ◌<◌, ◌+◌, ℕ, List, [], ◌∷◌, length, map, Option, Some, Result, Ok, Err, Bool, IsTrue, true, false, inl, inr, refl, sym, ◌∙◌, ap, subst, arith}
+use Rattle.std.proofs.Common.{◌≡◌, ◌≤◌, ◌<◌, ◌+◌, ℕ, List, [], ◌∷◌, length, get_or, map, Option, Some, Result, Ok, Err, Bool, IsTrue, true, false, inl, inr, refl, sym, ◌∙◌, ap, subst, arith}
 use Rattle.std.specs.Prelude.{ℤ, ◌↔◌, ◌⊎◌}
 use Rattle.std.proofs.lemmas.List.{length-map}
-use Rattle.poly_model.specs.declared.limits.TheConstants.{MOST_LOG_BYTES}
-use Rattle.desk_io.specs.Files.{Files, Holds, Lacks, file_of}
+use Rattle.desk_io.specs.Files.{Files}
 use Rattle.gcl_reader.specs.Figure.{figure_of}
 use Rattle.gcl_reader.specs.declared.limits.TheConstants.{MOST_BYTES}
 use Rattle.gcl_reader.specs.declared.refusal.Refusal.{Refusal}
@@ -22,20 +21,19 @@ use Rattle.log_checker.specs.Answers.{Accepted, Malformed, Rejected}
 use Rattle.log_checker.specs.declared.checking.Checked.{Checked}
 use Rattle.placement.specs.Carrying.{carried_of}
 use Rattle.command_line.specs.Answer.{Answer, refused, text_answer}
-use Rattle.command_line.specs.Carrying.{Posed, IsCarried, IsCarriedBy, IsCarriedFor, IsCarriedWith, all_carried, carried_text, posed_in}
-use Rattle.command_line.specs.CarryStages.{AreFew, IsCarriedFound, IsDrawnFor, IsToldFor, told_answer}
+use Rattle.command_line.specs.Carrying.{Posed, IsCarriedBy, IsCarriedFor, IsCarriedWith, all_carried, carried_text, posed_in}
+use Rattle.command_line.specs.CarryStages.{AreFew, IsCarriedBehind, IsCarriedFound, IsDrawnFor, IsToldFor, told_answer}
 use Rattle.command_line.specs.Checking.{other_problems}
-use Rattle.command_line.specs.Found.{Compares, Finds, Has}
+use Rattle.command_line.specs.Found.{Compares, Finds, Has, WasFound}
 use Rattle.command_line.specs.Run.{Answers, GivesOne}
 use Rattle.command_line.specs.Statuses.{IsComparingStatus, IsReadingFault}
-use Rattle.command_line.specs.Table.{CarryOf, OfFile, OfFileAlone, IsAnswer}
+use Rattle.command_line.specs.Table.{CarryOf, OfSources, IsAnswerOf, IsAnswerOver, names_of, source}
 use Rattle.command_line.specs.VerdictLines.{problems_in, verdicts_in}
 use Rattle.command_line.specs.declared.checking.Found.{Found}
 use Rattle.command_line.specs.declared.checking.Found.TheVariants as found
 use Rattle.command_line.specs.declared.status.Status.{Status}
 use Rattle.command_line.specs.declared.status.Status.TheVariants.{Unproved, Usage}
-use Rattle.command_line.proofs.Checks.{WasFound}
-use Rattle.command_line.proofs.Dues.{alone, of_read, of_told, passed_on, widened}
+use Rattle.command_line.proofs.Checks.{found_given}
 use Rattle.command_line.proofs.Figures.{problems-length}
 use Rattle.command_line.proofs.Found.{IsFit}
 use Rattle.command_line.proofs.Table.{silent_text}
@@ -146,55 +144,17 @@ pub few_compared : (x : Found) (program : Program) (has : Bool) → IsSound prog
 few_compared x program has sound h same = few_problems x program h.0 sound h.1 (h.2.0 same)
 
 -- ---- files that are read one after another
--- a file was read, and what is answered behind it sees its bytes
-pub read_then : (held held' : Option Files) (rose rose' : Type 0) (name : List ℕ) (most : ℕ) (bytes : List ℕ) (Next : Files → List ℕ → Answer → Type 0)
-    (out_old out_new notes_old notes_read notes_new : Option (List ℕ)) (status : Status)
-    → ((file : List ℕ) → Holds held name file → bytes ≡ file) → (Lacks held name → ⊥) → (most < length bytes → ⊥)
-    → held' ≡ held → (rose → rose') → notes_read ≡ notes_old
-    → Answers held' rose (λ files a. Next files bytes a) out_old out_new notes_read notes_new status
-    → Answers held rose' (λ files a. OfFile most (file_of files name) (Next files) a) out_old out_new notes_old notes_new status
-read_then held held' rose rose' name most bytes Next out_old out_new notes_old notes_read notes_new status whole there fits same later unsaid answered =
-    passed_on held held' rose rose' (λ files a. Next files bytes a) (λ files a. OfFile most (file_of files name) (Next files) a)
-    out_old out_new notes_old notes_new status same later
-    (λ files e a over. of_read held files name most bytes (Next files) a e whole there fits over)
-    (subst (λ n. Answers held' rose (λ files a. Next files bytes a) out_old out_new n notes_new status) unsaid answered)
-
--- the log alone decides
-pub carry_alone : (files : Files) (log file figure : List ℕ) (a : Answer) → OfFileAlone MOST_LOG_BYTES (file_of files log) a
-    → IsAnswer (Some (CarryOf log file figure)) files a
-carry_alone files log file figure a e =
-    alone MOST_LOG_BYTES (file_of files log)
-    (λ bytes b. OfFile MOST_BYTES (file_of files file) (λ text c. OfFile MOST_BYTES (file_of files figure) (λ drawn d. IsCarried bytes text drawn d) c) b) a e
-
 -- what is found of a log, with a file and a figure behind it
-abbrev Behind : (file figure : List ℕ) → Found → Files → Answer → Type 0
-Behind file figure f files a =
-    OfFile MOST_BYTES (file_of files file) (λ text b. OfFile MOST_BYTES (file_of files figure) (λ drawn c. IsCarriedFound (posed_in text) text drawn f c) b) a
-
-carry_answered : (held : Option Files) (files : Files) (log file figure : List ℕ) (f : Found) (a : Answer) → held ≡ Some files → WasFound held log f
-    → Behind file figure f files a → IsAnswer (Some (CarryOf log file figure)) files a
-carry_answered held files log file figure f a e w over =
-    of_told held files log MOST_LOG_BYTES
-    (λ bytes b. OfFile MOST_BYTES (file_of files file) (λ text c. OfFile MOST_BYTES (file_of files figure) (λ drawn d. IsCarried bytes text drawn d) c) b) a e w.there
-    (λ bytes h. (
-      w.fits bytes h,
-      widened MOST_BYTES (file_of files file)
-          (λ text b. OfFile MOST_BYTES (file_of files figure) (λ drawn c. IsCarriedFound (posed_in text) text drawn f c) b)
-          (λ text b. OfFile MOST_BYTES (file_of files figure) (λ drawn c. IsCarried bytes text drawn c) b) a
-          (λ text k. widened MOST_BYTES (file_of files figure) (λ drawn c. IsCarriedFound (posed_in text) text drawn f c)
-          (λ drawn c. IsCarried bytes text drawn c) a (λ drawn j. carried_with (posed_in text) f bytes text drawn a (w.finds bytes h) j) k) over,
-    ))
-
-pub log_then : (held held' : Option Files) (rose rose' : Type 0) (log file figure : List ℕ) (f : Found)
+pub carried_given : (held held' : Option Files) (rose rose' : Type 0) (log file figure : List ℕ) (f : Found)
     (out_old out_new notes_old notes_read notes_new : Option (List ℕ)) (status : Status) → WasFound held log f
     → held' ≡ held → (rose → rose') → notes_read ≡ notes_old
-    → Answers held' rose (λ files a. Behind file figure f files a) out_old out_new notes_read notes_new status
-    → Answers held rose' (IsAnswer (Some (CarryOf log file figure))) out_old out_new notes_old notes_new status
-log_then held held' rose rose' log file figure f out_old out_new notes_old notes_read notes_new status was same later unsaid answered =
-    passed_on held held' rose rose' (λ files a. Behind file figure f files a) (IsAnswer (Some (CarryOf log file figure)))
-    out_old out_new notes_old notes_new status same later
-    (λ files e a over. carry_answered held files log file figure f a e was over)
-    (subst (λ n. Answers held' rose (λ files a. Behind file figure f files a) out_old out_new n notes_new status) unsaid answered)
+    → Answers held' rose (file ∷ figure ∷ []) (OfSources (source file MOST_BYTES ∷ source figure MOST_BYTES ∷ []) (IsCarriedBehind f))
+    out_old out_new notes_read notes_new status
+    → Answers held rose' (names_of (Some (CarryOf log file figure))) (IsAnswerOf (Some (CarryOf log file figure))) out_old out_new notes_old notes_new status
+carried_given held held' rose rose' log file figure f out_old out_new notes_old notes_read notes_new status was same later unsaid answered =
+    found_given held held' rose rose' log (source file MOST_BYTES ∷ source figure MOST_BYTES ∷ []) f (IsCarriedBehind f) (IsAnswerOver (CarryOf log file figure))
+    out_old out_new notes_old notes_read notes_new status was
+    (λ files a k. carried_with (posed_in (get_or files 0 [])) f was.log (get_or files 0 []) (get_or files 1 []) a was.finds k) same later unsaid answered
 
 -- ---- statuses
 one_of : (s : Status) → IsReadingFault s ⊎ IsComparingStatus s → (t : Status) → s ≡ t → IsReadingFault t ⊎ IsComparingStatus t

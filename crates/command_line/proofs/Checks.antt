@@ -1,5 +1,5 @@
 -- The answer that is due where a log was checked.
-use Rattle.std.proofs.Common.{◌≡◌, ◌⊎◌, ℕ, List, [], ◌∷◌, map, Option, None, Some, Result, Ok, Err, Bool, true, false, inl, inr, refl, sym, ◌∙◌, ap, subst}
+use Rattle.std.proofs.Common.{◌≡◌, ◌⊎◌, ℕ, List, [], ◌∷◌, get_or, map, Option, None, Some, Result, Ok, Err, Bool, true, false, inl, inr, refl, sym, ◌∙◌, ap, subst}
 use Rattle.poly_model.specs.declared.limits.TheConstants.{MOST_LOG_BYTES}
 use Rattle.desk_io.specs.Files.{Files}
 use Rattle.gcl_reader.specs.declared.limits.TheConstants.{MOST_BYTES}
@@ -11,7 +11,7 @@ use Rattle.proof_steps.specs.declared.problem.Problem.{Problem}
 use Rattle.log_checker.specs.Against as checker
 use Rattle.log_checker.specs.declared.checking.Checked.{Checked}
 use Rattle.command_line.specs.Answer.{Answer, refused}
-use Rattle.command_line.specs.Checking.{IsCheckedAgainst, stated_in, other_problems}
+use Rattle.command_line.specs.Checking.{stated_in, other_problems}
 use Rattle.command_line.specs.Found.{Finds, WasFound, answer_of, Compares, IsAnswerBehind, IsAnswerFor}
 use Rattle.command_line.specs.Readings.{Reading, WasRead, first_of, readings_of}
 use Rattle.command_line.specs.Run.{Ends, Whole, CutOff, Nothing, Answers, GivesOne}
@@ -19,7 +19,7 @@ use Rattle.command_line.specs.Table.{CheckOf, Source, source, OfFileAlone, OfSou
 use Rattle.command_line.specs.declared.checking.Found.{Found}
 use Rattle.command_line.specs.declared.checking.Found.TheVariants as found
 use Rattle.command_line.specs.declared.status.Status.{Status}
-use Rattle.command_line.proofs.Dues.{passed_on, widened, first_decides, first_read, read_and_given}
+use Rattle.command_line.proofs.Dues.{names_in, passed_on, each_widened, first_decides, first_read, read_and_given}
 use Rattle.command_line.proofs.Found.{IsFit, silent_found, proper_found, checked_of, compared_of}
 
 -- ---- whether a log has the problems of a file
@@ -94,16 +94,21 @@ log_given held rose log file f out_old out_new notes_old notes_read notes_new st
     (read_and_given held rose (source log MOST_LOG_BYTES) was.log (IsAnswerOver (CheckOf log None)) (answer_of f)
     out_old out_new notes_old notes_read notes_new status (silent_found f) (proper_found f) (checked_of f was.log was.finds) was.read unsaid ends)
 
--- what is found of a log that is to have the problems of a file
-over_both : (log name : List ℕ) (f : Found) (bytes : List ℕ) → Finds f bytes → (readings : List Reading) (a : Answer)
-    → OfSources (source name MOST_BYTES ∷ []) (IsAnswerBehind f) readings a
-    → OfSources (source name MOST_BYTES ∷ []) (λ others b. IsAnswerOver (CheckOf log (Some name)) (bytes ∷ others) b) readings a
-over_both log name f bytes finds [] a over = over
-over_both log name f bytes finds (reading ∷ readings) a over =
-    widened MOST_BYTES reading (λ text b. IsAnswerFor (stated_in text) text f b) (λ text b. IsCheckedAgainst bytes text b) a
-    (λ text k. compared_of f bytes text (stated_in text) a finds k) over
+-- what is found of the log decides, with the files that are read behind it
+pub found_given : (held held' : Option Files) (rose rose' : Type 0) (log : List ℕ) (sources : List Source) (f : Found) (Behind Over : List (List ℕ) → Answer → Type 0)
+    (out_old out_new notes_old notes_read notes_new : Option (List ℕ)) (status : Status) → (was : WasFound held log f)
+    → ((files : List (List ℕ)) (a : Answer) → Behind files a → Over (was.log ∷ files) a) → held' ≡ held → (rose → rose') → notes_read ≡ notes_old
+    → Answers held' rose (names_in sources) (OfSources sources Behind) out_old out_new notes_read notes_new status
+    → Answers held rose' (names_in (source log MOST_LOG_BYTES ∷ sources)) (OfSources (source log MOST_LOG_BYTES ∷ sources) Over) out_old out_new notes_old notes_new status
+found_given held held' rose rose' log sources f Behind Over out_old out_new notes_old notes_read notes_new status was over same later unsaid answered =
+    first_read held held' rose rose' (source log MOST_LOG_BYTES) sources Over was.log out_old out_new notes_old notes_read notes_new status was.read same later unsaid
+    (passed_on held' held' rose rose (names_in sources) (names_in sources) (OfSources sources Behind) (OfSources sources (λ others b. Over (was.log ∷ others) b))
+    out_old out_new notes_read notes_new status refl (λ r. r)
+    (λ readings a k. (readings, each_widened sources Behind (λ others b. Over (was.log ∷ others) b) over readings a k))
+    (λ files e a k. each_widened sources Behind (λ others b. Over (was.log ∷ others) b) over (readings_of files (names_in sources)) a k)
+    answered)
 
--- and so is that
+-- and so it is of a log that is to have the problems of a file
 pub compared_given : (held held' : Option Files) (rose rose' : Type 0) (log name : List ℕ) (file : Option (List ℕ)) (f : Found)
     (out_old out_new notes_old notes_read notes_new : Option (List ℕ)) (status : Status) → file ≡ Some name → WasFound held log f
     → held' ≡ held → (rose → rose') → notes_read ≡ notes_old
@@ -111,11 +116,6 @@ pub compared_given : (held held' : Option Files) (rose rose' : Type 0) (log name
     → Answers held rose' (names_of (Some (CheckOf log file))) (IsAnswerOf (Some (CheckOf log file))) out_old out_new notes_old notes_new status
 compared_given held held' rose rose' log name file f out_old out_new notes_old notes_read notes_new status some was same later unsaid answered =
     subst (λ n. Answers held rose' (names_of (Some (CheckOf log n))) (IsAnswerOf (Some (CheckOf log n))) out_old out_new notes_old notes_new status) (sym some)
-    (first_read held held' rose rose' (source log MOST_LOG_BYTES) (source name MOST_BYTES ∷ []) (IsAnswerOver (CheckOf log (Some name))) was.log
-    out_old out_new notes_old notes_read notes_new status was.read same later unsaid
-    (passed_on held' held' rose rose (name ∷ []) (name ∷ []) (OfSources (source name MOST_BYTES ∷ []) (IsAnswerBehind f))
-    (OfSources (source name MOST_BYTES ∷ []) (λ others b. IsAnswerOver (CheckOf log (Some name)) (was.log ∷ others) b))
-    out_old out_new notes_read notes_new status refl (λ r. r)
-    (λ readings a over. (readings, over_both log name f was.log was.finds readings a over))
-    (λ files e a over. over_both log name f was.log was.finds (readings_of files (name ∷ [])) a over)
-    answered))
+    (found_given held held' rose rose' log (source name MOST_BYTES ∷ []) f (IsAnswerBehind f) (IsAnswerOver (CheckOf log (Some name)))
+    out_old out_new notes_old notes_read notes_new status was
+    (λ files a k. compared_of f was.log (get_or files 0 []) (stated_in (get_or files 0 [])) a was.finds k) same later unsaid answered)

@@ -92,6 +92,16 @@ pub widened : (most : ℕ) (o : Option (List ℕ)) (Next Next' : List ℕ → An
 widened most None Next Next' a over e = e
 widened most (Some bytes) Next Next' a over e = widened_by bytes Next Next' a (nat_lt most (length bytes)) (over bytes) e
 
+-- so it is with files that are read one after another
+pub each_widened : (sources : List Source) (Over Over' : List (List ℕ) → Answer → Type 0) → ((files : List (List ℕ)) (a : Answer) → Over files a → Over' files a)
+    → (readings : List Reading) (a : Answer) → OfSources sources Over readings a → OfSources sources Over' readings a
+each_widened [] Over Over' less readings a over = less [] a over
+each_widened (s ∷ sources) Over Over' less [] a over = over
+each_widened (s ∷ sources) Over Over' less (reading ∷ readings) a over =
+    widened s.most reading (λ bytes b. OfSources sources (λ others c. Over (bytes ∷ others) c) readings b)
+    (λ bytes b. OfSources sources (λ others c. Over' (bytes ∷ others) c) readings b) a
+    (λ bytes k. each_widened sources (λ others c. Over (bytes ∷ others) c) (λ others c. Over' (bytes ∷ others) c) (λ others c. less (bytes ∷ others) c) readings a k) over
+
 -- where the file alone decides, nothing comes next
 pub alone : (most : ℕ) (o : Option (List ℕ)) (Next : List ℕ → Answer → Type 0) (a : Answer) → OfFileAlone most o a → OfFile most o Next a
 alone most o Next a e = widened most o (λ bytes b. ⊥) Next a (λ bytes never. absurd never) e

@@ -5,7 +5,7 @@ use Rattle.std.proofs.lemmas.Bool.Decides.{nat_tests}
 use Rattle.std.proofs.lemmas.List.Elements.{recursion_from_All}
 use Rattle.std.proofs.lemmas.Option.{same_Some}
 use Rattle.std.specs.Io.KnownBytes.{append_known}
-use Rattle.poly_model.specs.Domain.{Operations}
+use Rattle.poly_model.specs.Domain.{Operations, integers}
 use Rattle.poly_model.specs.declared.limits.TheConstants.{MOST_LOG_BYTES}
 use Rattle.desk_io.specs.Files.{Files, Holds, file_of}
 use Rattle.gcl_reader.specs.declared.limits.TheConstants.{MOST_BYTES}
@@ -24,19 +24,23 @@ use Rattle.log_checker.specs.Checked.{AreOf}
 use Rattle.log_checker.specs.Answers.{Finding, Accepted, Malformed, Rejected, IsFound, IsAcceptedText}
 use Rattle.prove_run.specs.Whole.{HasCounts}
 use Rattle.command_line.specs.Answer.{Answer, read_fault, too_large, text_answer, answer_from}
+use Rattle.placement.specs.Carrying.{CarriedIsMet}
+use Rattle.command_line.specs.Carrying.{IsCarried, posed_in}
 use Rattle.command_line.specs.Checking.{answer_to, IsChecked, HasProblems, IsCheckedAgainst, IsCompared, IsComparedWith, stated_in}
 use Rattle.command_line.specs.Figures.{IsAssuredOf}
-use Rattle.command_line.specs.Headline.{Headline, IsWritten, ProvesOf, ShowsProofs, ShowsLog, ShowsFigures, assured_lines, assured_so, ProvedIsAssured}
+use Rattle.command_line.specs.Headline.{Headline, IsWritten, ProvesOf, ShowsProofs, ShowsLog, ShowsFigures, ShowsCarried, assured_lines, assured_so, ProvedIsAssured}
 use Rattle.command_line.specs.Readings.{Reading, readings_of}
 use Rattle.command_line.specs.Run.{Due, Whole, CutOff, Answers}
 use Rattle.command_line.specs.Proving.{proofs_of, log_text, proved}
-use Rattle.command_line.specs.Table.{Form, TextOf, ProveOf, CheckOf, TrialOf, source, OfFile, OfSources, IsAnswerOver, IsAnswerOf, names_of}
+use Rattle.command_line.specs.Table.{Form, TextOf, ProveOf, CheckOf, CarryOf, TrialOf, source, OfFile, OfSources, IsAnswerOver, IsAnswerOf, names_of}
 use Rattle.command_line.specs.VerdictLines.{problems_in}
 use Rattle.command_line.specs.declared.status.Status.{Status}
 use Rattle.command_line.specs.declared.status.Status.TheVariants.{Done, WriteFault, OutOfMemory}
 use Rattle.command_line.proofs.Assured.{spelled, log_assured}
+use Rattle.command_line.proofs.CarriedFigures.{carries}
 use Rattle.command_line.proofs.Figures.{AllMean, figures_hold}
 use Rattle.command_line.proofs.FileLogs.{IsSure, log-sure, log-stated}
+use Rattle.command_line.proofs.Single.{carried_with_one}
 
 -- ---- files that were read
 -- The file of an answer that has a log on out was read.
@@ -225,6 +229,61 @@ proved_assured files file log a h has there =
           (subst (IsAnswerOf (Some (CheckOf log (Some file))) (Some (log_text proofs) ∷ Some r.bytes ∷ [])) told against)),
     )
 
+-- ---- a figure that was carried
+-- What is known over the whole numbers.
+pub record OfWholeNumbers : Type 0 where
+  pub cover : TreesCover integers
+  pub hold : VerdictsHold integers
+  pub mean : AllMean integers
+  pub met : CarriedIsMet
+
+module _ (whole : OfWholeNumbers) (held : Option Files) (out_old out_new : Option (List ℕ)) (status : Status) (log file figure : List ℕ) where
+  carried_shown : status ≡ Done → Written held (log ∷ file ∷ figure ∷ []) (IsAnswerOf (Some (CarryOf log file figure))) out_old out_new status
+      → ShowsCarried held log file figure out_old out_new
+  carried_shown done w = by w.read.readings w.read.over w.read.own where
+    has : IsWritten w.answer.status
+    has = inl (w.is ∙ done)
+
+    shown : (bytes text drawn : List ℕ) → AreOf held log bytes → AreOf held file text → AreOf held figure drawn → IsCarried bytes text drawn w.answer
+        → ShowsCarried held log file figure out_old out_new
+    shown bytes text drawn log_own file_own own h =
+        let c = carries whole.cover whole.hold whole.mean whole.met bytes text drawn w.answer h (w.is ∙ done) in
+        record {
+          bytes = bytes;
+          source = text;
+          drawn = drawn;
+          own = log_own;
+          file_own = file_own;
+          figure_own = own;
+          shown = c;
+          text = w.out ∙ ap (λ (a : Answer). append_known out_old a.out) (carried_with_one (posed_in text) bytes text drawn w.answer _ h c.text);
+        }
+
+    last : (bytes text : List ℕ) → AreOf held log bytes → AreOf held file text → (readings : List Reading)
+        → OfSources (source figure MOST_BYTES ∷ []) (λ others b. IsAnswerOver (CarryOf log file figure) (bytes ∷ text ∷ others) b) readings w.answer
+        → OwnReadings held (figure ∷ []) readings → ShowsCarried held log file figure out_old out_new
+    last bytes text log_own file_own [] over own = absurd over
+    last bytes text log_own file_own (reading ∷ readings) over own =
+        let t = opened MOST_BYTES reading _ w.answer over has in
+        shown bytes text t.bytes log_own file_own (first_own held figure [] reading readings t.bytes own t.held) t.next
+
+    behind : (bytes : List ℕ) → AreOf held log bytes → (readings : List Reading)
+        → OfSources (source file MOST_BYTES ∷ source figure MOST_BYTES ∷ []) (λ others b. IsAnswerOver (CarryOf log file figure) (bytes ∷ others) b) readings w.answer
+        → OwnReadings held (file ∷ figure ∷ []) readings → ShowsCarried held log file figure out_old out_new
+    behind bytes log_own [] over own = absurd over
+    behind bytes log_own (reading ∷ readings) over own =
+        let q = opened MOST_BYTES reading _ w.answer over has in
+        last bytes q.bytes log_own (first_own held file (figure ∷ []) reading readings q.bytes own q.held) readings q.next
+        (others_own held file (figure ∷ []) reading readings own)
+
+    by : (readings : List Reading) → IsAnswerOf (Some (CarryOf log file figure)) readings w.answer → OwnReadings held (log ∷ file ∷ figure ∷ []) readings
+        → ShowsCarried held log file figure out_old out_new
+    by [] over own = absurd over
+    by (reading ∷ readings) over own =
+        let r = opened MOST_LOG_BYTES reading _ w.answer over has in
+        behind r.bytes (first_own held log (file ∷ figure ∷ []) reading readings r.bytes own r.held) readings r.next
+        (others_own held log (file ∷ figure ∷ []) reading readings own)
+
 -- ---- the headline
 module _ {M : Type 0} (o : Operations M) (cover : TreesCover o) (hold : VerdictsHold o) (mean : AllMean o) where
   of_file : (log file : List ℕ) (proofs : List Proof) → IsAcceptedText proofs log → stated_in file ≡ Ok (map equations (problems_in proofs)) → IsAssuredOf o log file
@@ -317,17 +376,20 @@ module _ {M : Type 0} (o : Operations M) (cover : TreesCover o) (hold : Verdicts
           let r = opened MOST_LOG_BYTES reading _ w.answer over has in
           behind r.bytes (first_own held log (file ∷ []) reading readings r.bytes own r.held) readings r.next (others_own held log (file ∷ []) reading readings own)
 
-  pub headline : (form : Option Form) (held : Option Files) (rose : Type 0) (out_old out_new notes_old notes_new : Option (List ℕ)) (status : Status)
+  pub headline : OfWholeNumbers → (form : Option Form) (held : Option Files) (rose : Type 0) (out_old out_new notes_old notes_new : Option (List ℕ)) (status : Status)
       → Answers held rose (names_of form) (IsAnswerOf form) out_old out_new notes_old notes_new status → Headline o form held out_old out_new status
-  headline None held rose out_old out_new notes_old notes_new status answered = tt
-  headline (Some (TextOf command file)) held rose out_old out_new notes_old notes_new status answered = tt
-  headline (Some (TrialOf number)) held rose out_old out_new notes_old notes_new status answered = tt
-  headline (Some (ProveOf file)) held rose out_old out_new notes_old notes_new status answered = λ written.
+  headline whole None held rose out_old out_new notes_old notes_new status answered = tt
+  headline whole (Some (TextOf command file)) held rose out_old out_new notes_old notes_new status answered = tt
+  headline whole (Some (TrialOf number)) held rose out_old out_new notes_old notes_new status answered = tt
+  headline whole (Some (ProveOf file)) held rose out_old out_new notes_old notes_new status answered = λ written.
       proofs_shown held out_old out_new status file written
       (was_written held rose (file ∷ []) (IsAnswerOf (Some (ProveOf file))) out_old out_new notes_old notes_new status answered written)
-  headline (Some (CheckOf log None)) held rose out_old out_new notes_old notes_new status answered = λ done.
+  headline whole (Some (CheckOf log None)) held rose out_old out_new notes_old notes_new status answered = λ done.
       log_shown held out_old out_new status log done
       (was_written held rose (log ∷ []) (IsAnswerOf (Some (CheckOf log None))) out_old out_new notes_old notes_new status answered (inl done))
-  headline (Some (CheckOf log (Some file))) held rose out_old out_new notes_old notes_new status answered = λ done.
+  headline whole (Some (CheckOf log (Some file))) held rose out_old out_new notes_old notes_new status answered = λ done.
       figures_shown held out_old out_new status log file done
       (was_written held rose (log ∷ file ∷ []) (IsAnswerOf (Some (CheckOf log (Some file)))) out_old out_new notes_old notes_new status answered (inl done))
+  headline whole (Some (CarryOf log file figure)) held rose out_old out_new notes_old notes_new status answered = λ done.
+      carried_shown whole held out_old out_new status log file figure done
+      (was_written held rose (log ∷ file ∷ figure ∷ []) (IsAnswerOf (Some (CarryOf log file figure))) out_old out_new notes_old notes_new status answered (inl done))

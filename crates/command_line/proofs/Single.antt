@@ -1,12 +1,16 @@
 -- No form has two answers over the same files.
 use Rattle.std.proofs.Common.{◌≡◌, ℕ, List, [], ◌∷◌, length, get_or, Option, None, Some, Result, Ok, Err, Bool, true, false, nat_lt, inl, inr, sym, ◌∙◌, ap, subst}
+use Rattle.std.specs.Prelude.{ℤ, ◌⊎◌}
+use Rattle.gcl_reader.specs.Figure.{figure_of}
 use Rattle.gcl_reader.specs.declared.refusal.Refusal.{Refusal}
 use Rattle.algebraize.specs.Equations.{Equations}
+use Rattle.algebraize.specs.Figure.{Figure}
 use Rattle.log_checker.specs.Answers.{Finding}
 use Rattle.log_checker.proofs.Exact.{one_finding}
 use Rattle.command_line.specs.Answer.{Answer, too_large}
-use Rattle.command_line.specs.Checking.{answer_to, IsChecked, IsAnswerAgainst, IsCompared, IsComparedWith, stated_in}
-use Rattle.command_line.specs.Table.{Form, TextOf, ProveOf, CheckOf, TrialOf, Source, OfFile, OfSources, IsAnswerOver, IsAnswerOf, sources_of}
+use Rattle.command_line.specs.Carrying.{Posed, IsCarriedBy, IsCarriedFor, IsCarriedWith, carried_to, posed_in}
+use Rattle.command_line.specs.Checking.{answer_to, HasProblems, other_problems, IsChecked, IsAnswerAgainst, IsCompared, IsComparedWith, stated_in}
+use Rattle.command_line.specs.Table.{Form, TextOf, ProveOf, CheckOf, CarryOf, TrialOf, Source, OfFile, OfSources, IsAnswerOver, IsAnswerOf, sources_of}
 use Rattle.command_line.specs.Readings.{Reading}
 
 -- There is at most one answer.
@@ -31,6 +35,27 @@ compared_with_one : (read : Result (List Equations) Refusal) (log file : List �
 compared_with_one (Ok stated) log file a b p q = compared_one stated log a b p q
 compared_with_one (Err refusal) log file a b p q = p ∙ sym q
 
+-- ---- carried figures
+carried_by_one : (posed : Posed) (f : Figure ℤ) (log : List ℕ) → AtMostOne (IsCarriedBy posed f log)
+carried_by_one posed f log a b p q =
+    both q.finding (subst (λ n. CarriedAnswer n a) (one_finding log p.finding q.finding p.found q.found) p.answer) q.answer where
+      CarriedAnswer : Finding → Answer → Type 0
+      CarriedAnswer n c = (HasProblems posed.stated n × (c ≡ carried_to posed.program.acts f n)) ⊎ ((HasProblems posed.stated n → ⊥) × (c ≡ other_problems))
+
+      both : (n : Finding) → CarriedAnswer n a → CarriedAnswer n b → a ≡ b
+      both n (inl x) (inl y) = x.1 ∙ sym y.1
+      both n (inl x) (inr y) = absurd (y.0 x.0)
+      both n (inr x) (inl y) = absurd (x.0 y.0)
+      both n (inr x) (inr y) = x.1 ∙ sym y.1
+
+carried_for_one : (posed : Posed) (drawn : Result (Figure ℤ) Refusal) (log figure : List ℕ) → AtMostOne (IsCarriedFor posed drawn log figure)
+carried_for_one posed (Ok f) log figure a b p q = carried_by_one posed f log a b p q
+carried_for_one posed (Err refusal) log figure a b p q = p ∙ sym q
+
+pub carried_with_one : (read : Result Posed Refusal) (log file figure : List ℕ) → AtMostOne (IsCarriedWith read log file figure)
+carried_with_one (Ok posed) log file figure a b p q = carried_for_one posed (figure_of posed.program.points figure) log figure a b p q
+carried_with_one (Err refusal) log file figure a b p q = p ∙ sym q
+
 -- ---- forms
 by_size : (bytes : List ℕ) (Next : List ℕ → Answer → Type 0) → AtMostOne (Next bytes) → (t : Bool)
     → AtMostOne (λ a. elim t [ true ↦ a ≡ too_large | false ↦ Next bytes a ])
@@ -53,6 +78,8 @@ over_form : (form : Form) (files : List (List ℕ)) → AtMostOne (IsAnswerOver 
 over_form (TextOf command file) files a b p q = p ∙ sym q
 over_form (ProveOf file) files a b p q = p ∙ sym q
 over_form (TrialOf number) files a b p q = p ∙ sym q
+over_form (CarryOf log file figure) files a b p q =
+    carried_with_one (posed_in (get_or files 1 [])) (get_or files 0 []) (get_or files 1 []) (get_or files 2 []) a b p q
 over_form (CheckOf log None) files a b p q = checked_one (get_or files 0 []) a b p q
 over_form (CheckOf log (Some file)) files a b p q = compared_with_one (stated_in (get_or files 1 [])) (get_or files 0 []) (get_or files 1 []) a b p q
 

@@ -1,5 +1,5 @@
 -- What the stages of `carry` give of what was found of a log, as the code has it.
-use Rattle.std.specs.Prelude.{◌≡◌, ◌≤◌, ◌↔◌, ◌⊎◌, ℕ, ℤ, List, length, Bool, IsTrue, Result, Ok, Err}
+use Rattle.std.specs.Prelude.{◌≡◌, ◌≤◌, ◌↔◌, ◌⊎◌, ℕ, ℤ, List, [], length, get_or, Bool, IsTrue, Result, Ok, Err}
 use Rattle.gcl_reader.specs.Figure.{figure_of}
 use Rattle.gcl_reader.specs.Grammar.{Fails}
 use Rattle.gcl_reader.specs.declared.refusal.GclFault.{GclFault}
@@ -10,7 +10,7 @@ use Rattle.gcl_names.specs.declared.program.Program.{Program}
 use Rattle.algebraize.specs.Equations.{Equations}
 use Rattle.algebraize.specs.Figure.{Figure}
 use Rattle.command_line.specs.Answer.{Answer, refused, text_answer}
-use Rattle.command_line.specs.Carrying.{Posed, carried_text}
+use Rattle.command_line.specs.Carrying.{Posed, carried_text, posed_in}
 use Rattle.command_line.specs.Checking.{malformed_at, misfit_at, other_problems}
 use Rattle.command_line.specs.Found.{Has}
 use Rattle.command_line.specs.declared.checking.Found.{Found}
@@ -47,3 +47,7 @@ IsDrawnFor p (Err refusal) figure x a = a ≡ refused figure refusal
 abbrev pub IsCarriedFound : Result Posed Refusal → (file figure : List ℕ) → Found → Answer → Type 0
 IsCarriedFound (Ok p) file figure x a = IsDrawnFor p (figure_of p.program.points figure) figure x a
 IsCarriedFound (Err refusal) file figure x a = a ≡ refused file refusal
+
+-- Behind the log, the file and the figure are read.
+abbrev pub IsCarriedBehind : Found → List (List ℕ) → Answer → Type 0
+IsCarriedBehind x files a = IsCarriedFound (posed_in (get_or files 0 [])) (get_or files 0 []) (get_or files 1 []) x a

@@ -34,4 +34,5 @@ workers_seen (Text form name) = None
 workers_seen (Prove name) = None
 workers_seen (ProveTogether name workers) = Some workers.count
 workers_seen (Check log file) = None
+workers_seen (Carry log file figure) = None
 workers_seen (Trial number workers) = Some workers.count

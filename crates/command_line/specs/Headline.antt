@@ -7,10 +7,11 @@ use Rattle.log_checker.specs.Checked.{AreOf}
 use Rattle.proof_log.specs.declared.log.Proof.{Proof}
 use Rattle.command_line.specs.Answer.{Answer, text_answer}
 use Rattle.command_line.specs.Assured.{IsAssuredLog}
+use Rattle.command_line.specs.Carrying.{CarriesOf, carried_text}
 use Rattle.command_line.specs.Checking.{assured_text}
 use Rattle.command_line.specs.Figures.{IsAssuredOf}
 use Rattle.command_line.specs.Proving.{proofs_of, log_text}
-use Rattle.command_line.specs.Table.{Form, TextOf, ProveOf, CheckOf, TrialOf, IsAnswer, IsAnswerOf}
+use Rattle.command_line.specs.Table.{Form, TextOf, ProveOf, CheckOf, CarryOf, TrialOf, IsAnswer, IsAnswerOf}
 use Rattle.command_line.specs.VerdictLines.{problems_in, verdicts_in}
 use Rattle.command_line.specs.declared.status.Status.{Status}
 use Rattle.command_line.specs.declared.status.Status.TheVariants.{Done, Unproved}
@@ -53,20 +54,34 @@ pub record ShowsFigures {M : Type 0} (o : Operations M) (held : Option Files) (l
   pub shown : IsAssuredOf o bytes source
   pub text : out_new ≡ append_known out_old (assured_lines shown.assured.proofs)
 
+-- What was read of a figure meets what the text on out says holds of it, by what was read of a log and of a file.
+pub record ShowsCarried (held : Option Files) (log file figure : List ℕ) (out_old out_new : Option (List ℕ)) : Type 0 where
+  pub bytes : List ℕ
+  pub source : List ℕ
+  pub drawn : List ℕ
+  pub own : AreOf held log bytes
+  pub file_own : AreOf held file source
+  pub figure_own : AreOf held figure drawn
+  pub shown : CarriesOf bytes source drawn
+  pub text : out_new ≡ append_known out_old
+      (carried_text shown.program.acts shown.places (problems_in shown.assured.proofs) (verdicts_in shown.assured.proofs))
+
 -- The text was written whole, though some statement of it may not be proved.
 abbrev pub IsWritten : Status → Type 0
 IsWritten status = (status ≡ Done) ⊎ (status ≡ Unproved)
 
 -- Where a log was written of a file, it is that of the bytes that were read, once; it is assured, its verdicts hold of the
 -- file's figures, and `check` assures it. Where the check of a log is done, the bytes that were read, once, are an assured
--- log, and out has its verdicts; and where it is done against a file, the verdicts hold of that file's figures. Where the
--- desk tells its files, these are the bytes that it holds.
+-- log, and out has its verdicts; and where it is done against a file, the verdicts hold of that file's figures. Where a
+-- figure was carried, it meets what the text says holds of it. Where the desk tells its files, these are the bytes that it
+-- holds.
 abbrev pub Headline : {M : Type 0} → Operations M → Option Form → Option Files → (out_old out_new : Option (List ℕ)) → Status → Type 0
 Headline o None held out_old out_new status = Unit {0}
 Headline o (Some (TextOf command file)) held out_old out_new status = Unit {0}
 Headline o (Some (ProveOf file)) held out_old out_new status = IsWritten status → ShowsProofs o held file out_old out_new
 Headline o (Some (CheckOf log None)) held out_old out_new status = status ≡ Done → ShowsLog o held log out_old out_new
 Headline o (Some (CheckOf log (Some file))) held out_old out_new status = status ≡ Done → ShowsFigures o held log file out_old out_new
+Headline o (Some (CarryOf log file figure)) held out_old out_new status = status ≡ Done → ShowsCarried held log file figure out_old out_new
 Headline o (Some (TrialOf number)) held out_old out_new status = Unit {0}
 
 -- ---- over the files of a desk

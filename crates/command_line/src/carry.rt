@@ -1,15 +1,14 @@
 // The call of the form that carries a figure.
-ghost use Rattle.std.specs.Prelude.{◌≡◌, ◌≤◌, ◌⊎◌, Some, length};
+ghost use Rattle.std.specs.Prelude.{◌≡◌, ◌≤◌, ◌⊎◌, [], ◌∷◌, Some, length};
 ghost use Rattle.desk_io.specs.Causes.{Rose};
-ghost use Rattle.desk_io.specs.Files.{Lacks, file_of};
+ghost use Rattle.desk_io.specs.Files.{Lacks};
 ghost use Rattle.gcl_reader.specs.declared.limits.TheConstants.{MOST_BYTES};
-ghost use Rattle.command_line.specs.Carrying.{posed_in};
-ghost use Rattle.command_line.specs.CarryStages.{IsCarriedFound};
+ghost use Rattle.command_line.specs.CarryStages.{IsCarriedBehind};
 ghost use Rattle.command_line.specs.Contract.{IsCarryRun, IsQuiet, IsRun, LacksOne, lent, views};
 ghost use Rattle.command_line.specs.Headline.{Headline};
 ghost use Rattle.command_line.specs.Run.{Answers};
 ghost use Rattle.command_line.specs.Statuses.{IsComparingStatus, IsReadingFault};
-ghost use Rattle.command_line.specs.Table.{CarryOf, IsAnswer, OfFile, names_of};
+ghost use Rattle.command_line.specs.Table.{CarryOf, IsAnswerOf, OfSources, names_of, source};
 
 use crate::carrying::put_carried;
 use crate::checking::{Found, fetch_log};
@@ -33,8 +32,8 @@ fn carry_figure<K: Desk, S: Sink, N: Sink>(
 ) -> Status
     requires { length bytes.now ≤ MOST_BYTES }
     ensures answered { Answers (K.held desk.old) (Rose (K.faults desk.old) (K.faults desk.new))
-        (λ files a. OfFile MOST_BYTES (file_of files name.now) (λ figure b.
-        IsCarriedFound (posed_in bytes.now) bytes.now figure found.now b) a)
+        (name.now ∷ []) (OfSources (source name.now MOST_BYTES ∷ [])
+        (λ figures a. IsCarriedBehind found.now (bytes.now ∷ figures) a))
         (S.written out.old) (S.written out.new) (N.written notes.old) (N.written notes.new) result }
     ensures read_fault { result ≡ Status.ReadFault
         → Rose (K.faults desk.old) (K.faults desk.new) ⊎ Lacks (K.held desk.old) name.now }
@@ -66,9 +65,9 @@ fn carry_file<K: Desk, S: Sink, N: Sink>(
     notes: &mut N,
 ) -> Status
     ensures answered { Answers (K.held desk.old) (Rose (K.faults desk.old) (K.faults desk.new))
-        (λ files a. OfFile MOST_BYTES (file_of files file.now) (λ bytes b.
-        OfFile MOST_BYTES (file_of files figure.now) (λ drawn c.
-        IsCarriedFound (posed_in bytes) bytes drawn found.now c) b) a)
+        (file.now ∷ figure.now ∷ [])
+        (OfSources (source file.now MOST_BYTES ∷ source figure.now MOST_BYTES ∷ [])
+        (IsCarriedBehind found.now))
         (S.written out.old) (S.written out.new) (N.written notes.old) (N.written notes.new) result }
     ensures read_fault { result ≡ Status.ReadFault
         → Rose (K.faults desk.old) (K.faults desk.new)
@@ -102,7 +101,8 @@ fn carry_answered<D: Domain, K: Desk, S: Sink, N: Sink>(
     notes: &mut N,
 ) -> Status
     ensures answered { Answers (K.held desk.old) (Rose (K.faults desk.old) (K.faults desk.new))
-        (IsAnswer (Some (CarryOf log.now file.now figure.now)))
+        (names_of (Some (CarryOf log.now file.now figure.now)))
+        (IsAnswerOf (Some (CarryOf log.now file.now figure.now)))
         (S.written out.old) (S.written out.new) (N.written notes.old) (N.written notes.new) result }
     ensures read_fault { result ≡ Status.ReadFault → Rose (K.faults desk.old) (K.faults desk.new)
         ⊎ LacksOne (K.held desk.old) (names_of (Some (CarryOf log.now file.now figure.now))) }
@@ -144,7 +144,7 @@ pub fn carry_run<D: Domain, K: Desk, S: Sink, N: Sink>(
     ensures carried { IsCarryRun (lent desk.old out.old notes.old)
         (lent desk.new out.new notes.new) result }
     ensures headline { Headline D.operations (Some (CarryOf log.now file.now figure.now))
-        (K.held desk.old) result }
+        (K.held desk.old) (S.written out.old) (S.written out.new) result }
 {
     a_yes_is_assured(domain);
     carry_answered::<D, K, S, N>(alloc, domain, log, file, figure, desk, out, notes)

@@ -1,7 +1,7 @@
 // The words of the command line.
 ghost use Rattle.std.specs.Prelude.{◌≡◌, None, map};
 ghost use Rattle.std.specs.String.{string_bytes};
-ghost use Rattle.command_line.specs.Table.{TextOf, one_file, log_and_file, form_of, prove_words, prove_workers, proved_by, trial_number, trial_words, trial_workers, tried_by, worker_count, workers_by, workers_of};
+ghost use Rattle.command_line.specs.Table.{TextOf, carry_words, one_file, log_and_file, form_of, prove_words, prove_workers, proved_by, trial_number, trial_words, trial_workers, tried_by, worker_count, workers_by, workers_of};
 ghost use Rattle.command_line.specs.Forms.{command_of, form_seen, workers_seen};
 
 use crate::numbers::trial_number;
@@ -30,6 +30,8 @@ pub enum Invocation<'a> {
     ProveTogether(&'a str, Workers),
     /// Whether a log is accepted, and whether it has the problems of a file, where one is named.
     Check(&'a str, Option<&'a str>),
+    /// What a log of a file's problems tells of a figure.
+    Carry(&'a str, &'a str, &'a str),
     /// What comes of the file of a number, by workers who do each proof together.
     Trial(u32, Workers),
 }
@@ -83,6 +85,17 @@ fn read_check(names: &[String]) -> Invocation<'_>
     }
 }
 
+// `carry`, with the words behind it.
+fn read_carry(names: &[String]) -> Invocation<'_>
+    ensures form { form_seen result ≡ carry_words (map string_bytes names.now) }
+    ensures workers { workers_seen result ≡ None }
+{
+    match names {
+        [log, file, figure] => Invocation::Carry(log.as_str(), file.as_str(), figure.as_str()),
+        _ => Invocation::Wrong,
+    }
+}
+
 // `trial` of the number that a word tells, by as many workers as another tells.
 fn read_trial_by(number: &str, count: &str) -> Invocation<'static>
     ensures form { form_seen result
@@ -127,6 +140,7 @@ pub fn read_command(words: &[String]) -> Invocation<'_>
         "prove" => read_prove(names),
         "check" => read_check(names),
         "trial" => read_trial(names),
+        "carry" => read_carry(names),
         _ => Invocation::Wrong,
     }
 }

@@ -11,7 +11,8 @@ ghost use Rattle.command_line.specs.declared.status.Status.{Status};
 
 use algebraize::equations_mean_their_figure;
 use assurance::{trees_cover, verdicts_hold};
-use poly_model::Domain;
+use placement::carried_is_met;
+use poly_model::{Domain, Integers};
 
 /// No words have two answers over the same readings of their files.
 pub fn answers_are_unique()
@@ -19,7 +20,8 @@ pub fn answers_are_unique()
         → IsAnswerOf form readings a → IsAnswerOf form readings b → a ≡ b }
 {}
 
-/// What a run that is done has shown, in each domain, from the answer that is due.
+/// What a run that is done has shown, in each domain, from the answer that is due; and what a carried figure meets, over the
+/// whole numbers.
 pub fn a_yes_is_assured<D: Domain>(domain: &D)
     ensures { (form : Option Form) (held : Option Files) (before now : ℕ)
         (out_old out_new notes_old notes_new : Option (List ℕ)) (status : Status)
@@ -30,6 +32,10 @@ pub fn a_yes_is_assured<D: Domain>(domain: &D)
     trees_cover(domain);
     verdicts_hold(domain);
     equations_mean_their_figure(domain);
+    trees_cover(&Integers);
+    verdicts_hold(&Integers);
+    equations_mean_their_figure(&Integers);
+    carried_is_met();
 }
 
 /// What `prove` writes of a file, `check` assures.

@@ -3,14 +3,15 @@ ghost use Rattle.std.specs.Prelude.{◌≡◌, ◌≤◌, ◌⊎◌, List, ℕ, 
 ghost use Rattle.std.specs.String.{string_bytes};
 ghost use Rattle.desk_io.specs.Causes.{Rose};
 ghost use Rattle.desk_io.specs.Files.{Lacks};
-ghost use Rattle.command_line.specs.Table.{IsAnswerOf, TextOf, ProveOf, CheckOf, TrialOf, form_of};
+ghost use Rattle.command_line.specs.Table.{IsAnswerOf, TextOf, ProveOf, CheckOf, CarryOf, TrialOf, form_of};
 ghost use Rattle.command_line.specs.Command.{Command};
-ghost use Rattle.command_line.specs.Contract.{IsRun, IsTextRun, IsProofRun, IsCheckRun, IsTrialRun, IsQuiet, lent, views};
+ghost use Rattle.command_line.specs.Contract.{IsRun, IsTextRun, IsProofRun, IsCheckRun, IsCarryRun, IsTrialRun, IsQuiet, lent, views};
 ghost use Rattle.command_line.specs.Headline.{Headline};
 ghost use Rattle.command_line.specs.Pipeline.{svg_of, latex_of, system_of, show_of};
 ghost use Rattle.command_line.specs.Run.{Answers};
 ghost use Rattle.command_line.specs.Samples.{sample_of};
 
+use crate::carry::carry_run;
 use crate::check::check_run;
 use crate::invocation::{Invocation, TextForm, read_command};
 use crate::laws::a_yes_is_assured;
@@ -29,7 +30,7 @@ use std::sync::Wait;
 use std::thread::Threads;
 
 const USAGE: &[u8] =
-    b"usage: gclc svg FILE, latex FILE, system FILE, show FILE, prove FILE [--workers N], check LOG [FILE], trial NUMBER WORKERS, sample FILE\n";
+    b"usage: gclc svg FILE, latex FILE, system FILE, show FILE, prove FILE [--workers N], check LOG [FILE], trial NUMBER WORKERS, sample FILE, carry LOG FILE FIGURE\n";
 
 // Reads the file and runs the command over it. The call below says what follows.
 fn file_answered<C: TextCommand, K: Desk, S: Sink, N: Sink>(
@@ -248,6 +249,9 @@ fn words_run<R: Threads + Wait + Sync, D: Domain, K: Desk, S: Sink, N: Sink>(
         → IsProofRun result }
     ensures checked { (log : List ℕ) (file : Option (List ℕ))
         → form_of (map string_bytes words.now) ≡ Some (CheckOf log file) → IsCheckRun file result }
+    ensures carried { (log file figure : List ℕ)
+        → form_of (map string_bytes words.now) ≡ Some (CarryOf log file figure)
+        → IsCarryRun (lent desk.old out.old notes.old) (lent desk.new out.new notes.new) result }
     ensures trial { (number : ℕ) → form_of (map string_bytes words.now) ≡ Some (TrialOf number)
         → IsTrialRun (lent desk.old out.old notes.old) (lent desk.new out.new notes.new) result }
 {
@@ -262,6 +266,9 @@ fn words_run<R: Threads + Wait + Sync, D: Domain, K: Desk, S: Sink, N: Sink>(
             proofs_run(&Together { rt, workers }, alloc, name, desk, out, notes)
         }
         Invocation::Check(log, file) => check_run(alloc, domain, log, file, desk, out, notes),
+        Invocation::Carry(log, file, figure) => {
+            carry_run(alloc, domain, log, file, figure, desk, out, notes)
+        }
         Invocation::Trial(number, workers) => {
             trial_run(&Together { rt, workers }, alloc, domain, number, out)
         }
@@ -292,6 +299,9 @@ pub fn gclc_run<R: Threads + Wait + Sync, D: Domain, K: Desk, S: Sink, N: Sink>(
         → IsProofRun result }
     ensures checked { (log : List ℕ) (file : Option (List ℕ))
         → form_of (map string_bytes words.now) ≡ Some (CheckOf log file) → IsCheckRun file result }
+    ensures carried { (log file figure : List ℕ)
+        → form_of (map string_bytes words.now) ≡ Some (CarryOf log file figure)
+        → IsCarryRun (lent desk.old out.old notes.old) (lent desk.new out.new notes.new) result }
     ensures trial { (number : ℕ) → form_of (map string_bytes words.now) ≡ Some (TrialOf number)
         → IsTrialRun (lent desk.old out.old notes.old) (lent desk.new out.new notes.new) result }
     ensures headline { Headline D.operations (form_of (map string_bytes words.now))

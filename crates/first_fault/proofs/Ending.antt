@@ -9,7 +9,7 @@ use Rattle.poly_model.specs.Reduction.{same, reduction_of}
 use Rattle.poly_model.specs.declared.limits.Reason.{Reason}
 use Rattle.poly_model.specs.declared.vars.VarName.{VarName}
 use Rattle.proof_steps.specs.Chain as chain
-use Rattle.proof_steps.specs.Chain.{Due, due_of, chain_reason, is_step}
+use Rattle.proof_steps.specs.Chain.{Due, due_of, chain_reason}
 use Rattle.proof_steps.specs.Numbers.{item}
 use Rattle.proof_steps.specs.declared.piece.ChainStep.{ChainStep}
 use Rattle.proof_steps.specs.declared.piece.Node.{Node}

@@ -1,40 +1,48 @@
 -- Lines fit, and leave the root room, exactly where they begin an accepted log.
 use Rattle.std.proofs.Common.{◌≡◌, ℕ, ◌<◌, ◌≤◌, List, [], ◌∷◌, ◌++◌, Bool, true, false, ◌⊎◌, inl, inr, refl, sym, ◌∙◌, ap, subst, arith, Option, Some, None, append_assoc}
-use Rattle.std.specs.Prelude.{nat_le}
-use Rattle.std.proofs.lemmas.Bool.{leb-true, leb-false}
+use Rattle.std.specs.Prelude.{nat_le, ◌==◌}
+use Rattle.std.proofs.lemmas.Bool.{eqb-true, leb-true, leb-false}
 use Rattle.std.proofs.lemmas.Option.{same_Some}
 use Rattle.poly_model.specs.Polynomial.{Polynomial}
 use Rattle.poly_model.specs.declared.vars.VarName.{VarName}
-use Rattle.proof_steps.specs.Rules.{sizes, size_of}
+use Rattle.proof_steps.specs.Rules.{has_second, sizes, size_of}
 use Rattle.verdicts.specs.declared.verdict.Verdict.{Verdict}
 use Rattle.proof_log.specs.Grammar.{IsFront}
-use Rattle.proof_log.specs.Places.{parts_before, goes, start, run}
+use Rattle.proof_log.specs.Lines.{log_lines}
+use Rattle.proof_log.specs.Places.{parts_before, stands, goes, start, run}
+use Rattle.proof_log.specs.Settings.{unsettled, setting_after, AreOf}
 use Rattle.proof_log.specs.Text.{row_of, names_after, AreLines}
 use Rattle.proof_log.specs.declared.line.LogLine.{LogLine}
 use Rattle.proof_log.specs.declared.line.LogLine.TheVariants as line
 use Rattle.proof_log.specs.declared.place.Part.{Part}
 use Rattle.proof_log.specs.declared.place.Part.TheVariants as part
 use Rattle.proof_log.specs.declared.place.Place.{Place}
+use Rattle.proof_log.specs.declared.setting.Setting.{Setting}
 use Rattle.proof_log.proofs.Logs.{run_log, run_append, whole_is}
 use Rattle.log_checker.specs.Fitting as fitting
-use Rattle.log_checker.specs.Fitting.{State, begin, root, where_fits, settled, node_settled, verdict_settled, inside_row, by_part, after, fitted}
+use Rattle.log_checker.specs.Fitting.{State, begin, root, settled, node_settled, verdict_settled, inside_row, by_part, after, fitted}
 use Rattle.log_checker.proofs.Fits.{fitted_from, log_accepted, log_goes}
-use Rattle.first_fault.specs.FirstFault.{BeginAccepted, RootHasFuel, Fit, AreLetThrough, IsUnfit, FittingBegins, IsFirst, Overfills, RejectedIsFirst}
+use Rattle.first_fault.specs.FirstFault.{BeginAccepted, NextHasFuel, RootHasFuel, Fit, AreLetThrough, IsUnfit, FittingBegins, IsFirst, Overfills, RejectedIsFirst}
 use Rattle.first_fault.proofs.Standing.{IsBetween, IsOpening, IsWithin, Known, Stands, ArePosing}
-use Rattle.first_fault.proofs.Places.{cases, by_parts, Stepped, stepped, run_from}
+use Rattle.first_fault.proofs.Places.{cases, by_parts, Stepped, stepped, held, run_from, Next, next_number, next-is, next-goes, front-next, next-front}
 use Rattle.first_fault.proofs.Keeping.{fits-some, keeps}
 use Rattle.first_fault.proofs.Ending.{Ends}
 use Rattle.first_fault.proofs.Working.{goes-on}
-use Rattle.first_fault.proofs.Spelling.{all-posing, posing-append, log-spelled}
+use Rattle.first_fault.proofs.Spelling.{all-posing, posing-append, log-spelled, as-shown, log-own}
 
 -- ---- lines before others
 front_of_front : (ls : List LogLine) (l : LogLine) → IsFront (ls ++ l ∷ []) → IsFront ls
-front_of_front ls l f = record { version = f.version; log = f.log; fits = f.fits; more = l ∷ f.more; begins = f.begins ∙ append_assoc ls (l ∷ []) f.more }
+front_of_front ls l f = record { heading = f.heading; log = f.log; fits = f.fits; more = l ∷ f.more; begins = f.begins ∙ append_assoc ls (l ∷ []) f.more }
 
 lines_front : (names : List VarName) (a b : List LogLine) → AreLines names (a ++ b) → AreLines names a
 unfolding AreLines
 lines_front names [] b h = tt
 lines_front names (l ∷ a) b h = (h.0, lines_front (names_after names l) a b h.1)
+
+own_front : (k : Setting) (a b : List LogLine) → AreOf k (a ++ b) → AreOf k a
+unfolding AreOf
+own_front k [] b h = tt
+own_front k (l ∷ a) b h = (h.0, own_front (setting_after k l) a b h.1)
 
 fitted_append : (s t : State) (a b : List LogLine) → fitted s a ≡ Some t → fitted s (a ++ b) ≡ fitted t b
 unfolding fitted
@@ -71,27 +79,32 @@ completed lines r t p g f e =
     let through : run start (lines ++ e.more) ≡ Some e.place = run_append start r lines e.more g ∙ e.runs in
     let fits : fitted begin (lines ++ e.more) ≡ Some e.state = fitted_append begin t lines e.more f ∙ e.fits in
     let w = whole_is e.place (lines ++ e.more) through e.done in
-    let a = log_accepted w.version w.log e.state w.fits.written (ap (fitted begin) (sym w.whole) ∙ fits) in
+    let h = as-shown w.heading w.log in
+    let whole : lines ++ e.more ≡ log_lines h.heading w.log = w.whole ∙ h.lines in
+    let a = log_accepted h.heading w.log e.state h.stated w.fits.written (ap (fitted begin) (sym whole) ∙ fits) in
+    let spelled = log-spelled h.heading w.log w.fits a (subst (ArePosing []) whole (posing-append [] lines e.more p e.poses)) in
     record {
-      version = w.version;
+      heading = h.heading;
+      stated = h.stated;
       log = w.log;
       fits = w.fits;
-      spelled = log-spelled w.version w.log w.fits a (subst (ArePosing []) w.whole (posing-append [] lines e.more p e.poses));
+      spelled = spelled;
+      own = log-own h.heading w.log w.fits spelled;
       accepted = a;
       more = e.more;
-      begins = sym w.whole;
+      begins = sym whole;
     }
 
 front-run : (lines : List LogLine) → IsFront lines → (r : Place) × (run start lines ≡ Some r)
 front-run lines g =
-    let through = run_log g.version g.log g.fits.proofs in
+    let through = run_log g.heading g.log g.fits.proofs in
     run_front start through.to lines g.more (ap (run start) (sym g.begins) ∙ through.runs)
 
 pub fit-begins : (lines : List LogLine) → AreLetThrough lines → Fit lines → BeginAccepted lines
 fit-begins lines w f =
     let p = all-posing [] lines w.spelled in
     let g = front-run lines w.grammar in
-    completed lines g.0 f.state p g.1 f.fit (goes-on g.0 f.state (stands-on [] start g.0 begin f.state lines p tt g.1 f.fit) f.room)
+    completed lines g.0 f.state p g.1 f.fit (goes-on lines g.0 f.state g.1 (stands-on [] start g.0 begin f.state lines p tt g.1 f.fit) f.room)
 
 -- ---- a root without fuel for its size is in no accepted log
 abbrev IsTelling : Part → Type 0
@@ -151,6 +164,7 @@ module _ (s r : Place) (t v : State) (d : Doomed s t) where
   doomed : (l : LogLine) → Stepped s l r → after t l ≡ Some v → Doomed r v
   unfolding after
   doomed (line.Head version) k e = absurd (telling (line.Head version) k ((λ h. h), tt))
+  doomed (line.Fuel n) k e = absurd (telling (line.Fuel n) k ((λ h. h), tt))
   doomed (line.Proves n) k e = absurd (telling (line.Proves n) k ((λ h. h), tt))
   doomed (line.Prove i) k e = absurd (telling (line.Prove i) k ((λ h. h), tt))
   doomed (line.Vars names) k e = to part.Hyps k.counts t k.behind tt (same_Some t v e) d.opening d.short
@@ -188,9 +202,64 @@ never-done (l ∷ ls) s r t v d g done f = by (λ x y h a b. never-done ls x r y
     by later (Some x) a None b g f = cc
     by later (Some x) a (Some y) b g f = later x y (doomed s x t y d l (stepped s l x a) b) g f
 
+-- nor does a proof come next that has no fuel for any root
+between-proofs : (l : LogLine) → stands (row_of l).word part.Between ≡ true → ((k : ℕ) × (l ≡ line.Prove k)) ⊎ (l ≡ line.End)
+between-proofs (line.Head version) e = cc
+between-proofs (line.Fuel n) e = cc
+between-proofs (line.Proves n) e = cc
+between-proofs (line.Prove k) e = inl (k, refl)
+between-proofs (line.Vars names) e = cc
+between-proofs (line.Hyp p) e = cc
+between-proofs (line.Con p) e = cc
+between-proofs (line.Node path) e = cc
+between-proofs (line.Drop i) e = cc
+between-proofs (line.Red g f m q) e = cc
+between-proofs (line.Tail f q) e = cc
+between-proofs (line.Split f q) e = cc
+between-proofs (line.Close i) e = cc
+between-proofs (line.Clash i j) e = cc
+between-proofs line.System e = cc
+between-proofs (line.Chain c) e = cc
+between-proofs line.Proved e = cc
+between-proofs (line.Remainder i) e = cc
+between-proofs (line.Unreduced i why f) e = cc
+between-proofs (line.Open why what) e = cc
+between-proofs (line.Eq q) e = cc
+between-proofs (line.Ne q) e = cc
+between-proofs (line.Verdict x) e = cc
+between-proofs line.End e = inr refl
+
+record Starved (s : Place) (t : State) : Type 0 where
+  next : Next s
+  short : t.fuel < 4
+
+module _ (s r : Place) (t v : State) (d : Starved s t) where
+  prove-doomed : (k : ℕ) → Stepped s (line.Prove k) r → after t (line.Prove k) ≡ Some v → Doomed r v
+  unfolding after
+  prove-doomed k c e = subst (Doomed r) (same_Some _ v e) (record { telling = subst (λ y. IsTelling y.part) (sym c.behind) tt; opening = tt; short = d.short })
+
+  no-end : Stepped s line.End r → ⊥
+  no-end c = let some = d.next.left in let none = eqb-true s.left 0 (held (s.left == 0) s c.counts c.count).0 in omega (arith, some, none)
+
+  starved-doomed : (l : LogLine) → Stepped s l r → after t l ≡ Some v → Doomed r v
+  starved-doomed l c e = elim (between-proofs l (subst (λ p. stands (row_of l).word p ≡ true) d.next.between c.stands_here)) [
+    | inl h ↦ prove-doomed h.0 (subst (λ m. Stepped s m r) h.1 c) (subst (λ m. after t m ≡ Some v) h.1 e)
+    | inr h ↦ absurd (no-end (subst (λ m. Stepped s m r) h c))
+  ]
+
+starved-never : (ls : List LogLine) (s r : Place) (t v : State) → Starved s t → run s ls ≡ Some r → r.part ≡ part.Done → fitted t ls ≡ Some v → ⊥
+unfolding run fitted
+starved-never [] s r t v d g done f = let e : part.Between ≡ part.Done = sym d.next.between ∙ ap (λ (x : Place). x.part) (same_Some s r g) ∙ done in cc
+starved-never (l ∷ ls) s r t v d g done f = by (goes s l) refl (after t l) refl g f
+  where
+    by : (o : Option Place) → goes s l ≡ o → (q : Option State) → after t l ≡ q → run_from o ls ≡ Some r → fitted_from q ls ≡ Some v → ⊥
+    by None a q b g f = cc
+    by (Some x) a None b g f = cc
+    by (Some x) a (Some y) b g f = never-done ls x r y v (starved-doomed s x t y d l (stepped s l x a) b) g done f
+
 -- a root is being told only in a problem
-telling-at : (p : Part) (n left c : ℕ) (w : Bool) (t : State) → IsOpening t.part → Known p n left c w t → IsTelling p
-telling-at p n left c w t o k = by p t.part o k
+telling-at : (p : Part) (left c : ℕ) (w : Bool) (t : State) → IsOpening t.part → Known p left c w t → IsTelling p
+telling-at p left c w t o k = by p t.part o k
   where
     outside : (q : fitting.Part) → IsOpening q → IsBetween q → ⊥
     outside fitting.Opening o k = k
@@ -202,12 +271,12 @@ telling-at p n left c w t o k = by p t.part o k
     within P (fitting.Within path i) o k = o
     within P fitting.Between o k = o
 
-    by : (p : Part) (q : fitting.Part) → IsOpening t.part → Known p n left c w t → IsTelling p
+    by : (p : Part) (q : fitting.Part) → IsOpening t.part → Known p left c w t → IsTelling p
     by part.Prove q o k = tt
     by part.Hyps q o k = tt
     by part.Cons q o k = tt
     by part.Start q o k = outside t.part o k
-    by part.Head q o k = outside t.part o k
+    by part.Head q o k = outside t.part o k.1
     by part.Between q o k = outside t.part o k.1
     by part.Steps q o k = within _ t.part o k.inside
     by part.Eqs q o k = within _ t.part o k.inside
@@ -216,50 +285,79 @@ telling-at p n left c w t o k = by p t.part o k
     by part.Pieces q o k = within _ t.part o k.inside
     by part.Done q o k = outside t.part o k
 
-room-of : (t : State) → (IsOpening t.part → t.fuel < size_of (root t) → ⊥) → (q : fitting.Part) → (IsOpening q → IsOpening t.part) → RootHasFuel t q
-room-of t none fitting.Opening o = by (nat_le (size_of (root t)) t.fuel) refl
+room-of : (lines : List LogLine) (t : State) → (IsOpening t.part → t.fuel < size_of (root t) → ⊥) → ((k : ℕ) → IsFront (lines ++ line.Prove k ∷ []) → t.fuel < 4 → ⊥)
+    → (q : fitting.Part) → (IsOpening q → IsOpening t.part) → RootHasFuel lines t q
+room-of lines t none starved fitting.Opening o = by (nat_le (size_of (root t)) t.fuel) refl
   where
     by : (b : Bool) → nat_le (size_of (root t)) t.fuel ≡ b → size_of (root t) ≤ t.fuel
     by true e = leb-true (size_of (root t)) t.fuel e
     by false e = absurd (none (o tt) (leb-false (size_of (root t)) t.fuel e))
-room-of t none (fitting.Within path i) o = tt
-room-of t none fitting.Between o = tt
+room-of lines t none starved (fitting.Within path i) o = tt
+room-of lines t none starved fitting.Between o = λ second k f. by k f (nat_le 4 t.fuel) refl
+  where
+    by : (k : ℕ) → IsFront (lines ++ line.Prove k ∷ []) → (b : Bool) → nat_le 4 t.fuel ≡ b → 4 ≤ t.fuel
+    by k f true e = leb-true 4 t.fuel e
+    by k f false e = absurd (starved k f (leb-false 4 t.fuel e))
 
 begun-fits : (lines : List LogLine) → BeginAccepted lines → Fit lines
 begun-fits lines b =
-    let goes = log_goes b.version b.log b.accepted in
+    let goes = log_goes b.heading b.log b.stated b.accepted in
     let whole : fitted begin (lines ++ b.more) ≡ Some goes.0 = ap (fitted begin) (sym b.begins) ∙ goes.1 in
     let f = fit_front begin goes.0 lines b.more whole in
-    let through = run_log b.version b.log b.fits.proofs in
+    let through = run_log b.heading b.log b.fits.proofs in
     let all : run start (lines ++ b.more) ≡ Some through.to = ap (run start) (sym b.begins) ∙ through.runs in
     let g = run_front start through.to lines b.more all in
     let p = all-posing [] lines (lines_front [] lines b.more (subst (AreLines []) b.begins b.spelled)) in
     let k = stands-on [] start g.0 begin f.0 lines p tt g.1 f.1 in
+    let runs : run g.0 b.more ≡ Some through.to = sym (run_append start g.0 lines b.more g.1) ∙ all in
+    let fits : fitted f.0 b.more ≡ Some goes.0 = sym (fitted_append begin f.0 lines b.more f.1) ∙ whole in
     let none : IsOpening f.0.part → f.0.fuel < size_of (root f.0) → ⊥ =
-    λ o short. never-done b.more g.0 through.to f.0 goes.0 (record { telling = telling-at g.0.part _ _ _ _ f.0 o k; opening = o; short = short })
-    (sym (run_append start g.0 lines b.more g.1) ∙ all) through.is (sym (fitted_append begin f.0 lines b.more f.1) ∙ whole) in
-    record { state = f.0; fit = f.1; room = room-of f.0 none f.0.part (λ o. o) }
+    λ o short. never-done b.more g.0 through.to f.0 goes.0 (record { telling = telling-at g.0.part _ _ _ f.0 o k; opening = o; short = short }) runs through.is fits in
+    let starved : (j : ℕ) → IsFront (lines ++ line.Prove j ∷ []) → f.0.fuel < 4 → ⊥ =
+    λ j n short. starved-never b.more g.0 through.to f.0 goes.0 (record { next = front-next g.0 lines g.1 j n; short = short }) runs through.is fits in
+    record { state = f.0; fit = f.1; room = room-of lines f.0 none starved f.0.part (λ o. o) }
 
 pub fitting-begins : FittingBegins
 fitting-begins lines w = ((λ f. fit-begins lines w f), (λ b. begun-fits lines b))
 
 -- ---- one line more
 pub let-through : (front : List LogLine) (l : LogLine) → AreLetThrough (front ++ l ∷ []) → AreLetThrough front
-let-through front l w = record { spelled = lines_front [] front (l ∷ []) w.spelled; grammar = front_of_front front l w.grammar }
+let-through front l w = record {
+  spelled = lines_front [] front (l ∷ []) w.spelled;
+  own = own_front unsettled front (l ∷ []) w.own;
+  grammar = front_of_front front l w.grammar;
+}
 
 one_fits : (s : State) (l : LogLine) → fitted s (l ∷ []) ≡ fitted_from (after s l) []
 unfolding fitted
 one_fits s l = refl
 
--- the state behind a front that fits, or too little fuel for the root
-pub has-room : (s : State) (q : fitting.Part) → RootHasFuel s q ⊎ (RootHasFuel s q → ⊥)
-has-room s fitting.Opening = by (nat_le (size_of (root s)) s.fuel) refl
-  where
-    by : (b : Bool) → nat_le (size_of (root s)) s.fuel ≡ b → (size_of (root s) ≤ s.fuel) ⊎ (size_of (root s) ≤ s.fuel → ⊥)
-    by true e = inl (leb-true (size_of (root s)) s.fuel e)
-    by false e = inr (λ h. let f = leb-false (size_of (root s)) s.fuel e in omega (arith, f, h))
-has-room s (fitting.Within path i) = inl tt
-has-room s fitting.Between = inl tt
+-- the state behind lines that fit, or too little fuel for a root
+module _ (lines : List LogLine) (grammar : IsFront lines) (s : State) where
+  Decided : Type 0 → Type 0
+  Decided P = P ⊎ (P → ⊥)
+
+  enough : (n : ℕ) → Decided (n ≤ s.fuel)
+  unfolding Decided
+  enough n = by (nat_le n s.fuel) refl
+    where
+      by : (b : Bool) → nat_le n s.fuel ≡ b → (n ≤ s.fuel) ⊎ (n ≤ s.fuel → ⊥)
+      by true e = inl (leb-true n s.fuel e)
+      by false e = inr (λ h. let f = leb-false n s.fuel e in omega (arith, f, h))
+
+  next-has : (b : Bool) → has_second s.version ≡ b → (r : Place) → run start lines ≡ Some r → (o : Option Place) → goes r (line.Prove (next_number r)) ≡ o
+      → (4 ≤ s.fuel) ⊎ (4 ≤ s.fuel → ⊥) → Decided (NextHasFuel lines s)
+  unfolding Decided
+  next-has b e r g o n (inl h) = inl (λ _ _ _. h)
+  next-has false e r g o n (inr h) = inl (λ second _ _. absurd (let f : false ≡ true = sym e ∙ second in cc))
+  next-has true e r g None n (inr h) = inl (λ _ k f. absurd (let i : ◌≡◌ {A = Option Place} None (Some _) = sym n ∙ next-goes r (front-next r lines g k f) in cc))
+  next-has true e r g (Some q) n (inr h) = inr (λ room. h (room e (next_number r) (next-front r lines g (next-is r q _ n))))
+
+  pub has-room : (q : fitting.Part) → RootHasFuel lines s q ⊎ (RootHasFuel lines s q → ⊥)
+  unfolding Decided
+  has-room fitting.Opening = enough (size_of (root s))
+  has-room (fitting.Within path i) = inl tt
+  has-room fitting.Between = let g = front-run lines grammar in next-has (has_second s.version) refl g.0 g.1 (goes g.0 (line.Prove (next_number g.0))) refl (enough 4)
 
 unfit-begins-none : (front : List LogLine) (l : LogLine) → IsUnfit front l → BeginAccepted (front ++ l ∷ []) → ⊥
 unfit-begins-none front l u b =
@@ -275,7 +373,7 @@ last t = refl
 module _ (front : List LogLine) (l : LogLine) (w : AreLetThrough (front ++ l ∷ [])) where
   rejected : IsUnfit front l → (BeginAccepted front ⊎ Overfills front) × (BeginAccepted (front ++ l ∷ []) → ⊥)
   rejected u = (
-    elim (has-room u.0 u.0.part) [
+    elim (has-room front (let-through front l w).grammar u.0 u.0.part) [
       | inl h ↦ inl (fit-begins front (let-through front l w) (record { state = u.0; fit = u.1; room = h }))
       | inr h ↦ inr (u.0, u.1, h)
     ],

@@ -1,16 +1,17 @@
 -- What is known is known behind each line more that fits.
-use Rattle.std.proofs.Common.{◌≡◌, ℕ, ◌+◌, ◌-◌, ◌/◌, ◌≤◌, List, [], ◌∷◌, ◌++◌, Bool, true, false, ◌&&◌, ◌==◌, nat_lt, refl, sym, ◌∙◌, subst, arith, Option, Some, None}
-use Rattle.std.specs.Prelude.{ℤ, nat_le, if◌then◌else◌}
+use Rattle.std.proofs.Common.{◌≡◌, ℕ, ◌+◌, ◌-◌, ◌≤◌, List, [], ◌∷◌, ◌++◌, Bool, true, false, not, ◌&&◌, ◌==◌, nat_lt, refl, sym, ◌∙◌, ap, subst, arith, Option, Some, None}
+use Rattle.std.specs.Prelude.{ℤ, nat_le}
 use Rattle.std.proofs.lemmas.Bool.{and_parts, leb-true}
+use Rattle.std.proofs.lemmas.Nat.{le-div}
 use Rattle.std.proofs.lemmas.Option.{same_Some}
 use Rattle.poly_model.specs.Polynomial.{Polynomial}
 use Rattle.poly_model.specs.Reduction.{same}
 use Rattle.poly_model.specs.declared.limits.Reason.{Reason}
-use Rattle.poly_model.specs.declared.limits.TheConstants.{MOST_FUEL, MOST_HYPOTHESES, MOST_CONCLUSIONS}
+use Rattle.poly_model.specs.declared.limits.TheConstants.{MOST_HYPOTHESES, MOST_CONCLUSIONS}
 use Rattle.poly_model.specs.declared.vars.VarName.{VarName}
 use Rattle.proof_steps.specs.Chain as chain
 use Rattle.proof_steps.specs.Chain.{Due, due_of}
-use Rattle.proof_steps.specs.Rules.{is_valid, reason_of, made, attempt_of, stepped, size_of}
+use Rattle.proof_steps.specs.Rules.{has_second, is_valid, reason_of, made, attempt_of, stepped, size_of}
 use Rattle.proof_steps.specs.Reasons.{same_reason}
 use Rattle.proof_steps.specs.Trees.{step_fits, same_path}
 use Rattle.proof_steps.specs.declared.piece.ChainStep.{ChainStep}
@@ -24,8 +25,10 @@ use Rattle.tree_laws.specs.Costs.{HaveFuel}
 use Rattle.tree_laws.proofs.Paid.{have-append, reasons-are-right}
 use Rattle.verdicts.specs.Tallies.{Ending, no_tally}
 use Rattle.verdicts.specs.declared.verdict.Verdict.{Verdict}
+use Rattle.proof_log.specs.Headings.{share_of}
 use Rattle.proof_log.specs.Places.{parts_before}
 use Rattle.proof_log.specs.Text.{row_of}
+use Rattle.proof_log.specs.declared.limits.TheConstants.{FIRST_FUEL, MOST_PROOFS}
 use Rattle.proof_log.specs.declared.line.LogLine.{LogLine}
 use Rattle.proof_log.specs.declared.line.LogLine.TheVariants as line
 use Rattle.proof_log.specs.declared.place.Part.{Part}
@@ -33,8 +36,8 @@ use Rattle.proof_log.specs.declared.place.Part.TheVariants as part
 use Rattle.proof_log.specs.declared.place.Place.{Place}
 use Rattle.log_checker.specs.Fitting as fitting
 use Rattle.log_checker.specs.Fitting.{Work, At, Chaining, Ended, Inside, State, listed, where_fits, where_whole, by_node, at_node, by_chain, in_chain, step_row, split_row, close_row, clash_row, system_row, open_row, chain_row, proved_row, remainder_row, unreduced_row, eq_row, ne_row, in_piece, end_of_work, end_of, root, behind, settled, node_row, node_settled, verdict_row, verdict_settled, inside_row, by_part, after}
-use Rattle.first_fault.proofs.Places.{cases, by_parts, Stepped}
-use Rattle.first_fault.proofs.Standing.{IsNode, Works, Inner, IsBetween, IsOpening, IsWithin, Shared, InProof, Known, Stands, IsPosing}
+use Rattle.first_fault.proofs.Places.{cases, by_parts, Stepped, held, failed}
+use Rattle.first_fault.proofs.Standing.{IsNode, Works, Inner, IsBetween, IsOpening, IsWithin, InProof, HeadFuel, NextFuel, Known, Stands, IsPosing}
 
 -- ---- what a row gives
 pub fits-some : {A : Type 0} (b : Bool) (x y : A) → where_fits b x ≡ Some y → (b ≡ true) × (x ≡ y)
@@ -130,9 +133,9 @@ ne-gives p [] (q ∷ qs) w whole j h e = subst (Inner part.Nes whole) (fits-some
 ne-gives p (q ∷ qs) nes w whole j h e = cc
 
 -- ---- the state behind a piece, and at the root
-pub record Settled (t u : State) : Type 0 where
+pub record Settled (u : State) : Type 0 where
+  pub enough : 4 ≤ u.fuel
   pub waiting : HaveFuel u.waiting
-  pub fuel : u.fuel ≡ t.fuel
   pub between : IsBetween u.part
 
 ended-fuel : (eqs nes : List Polynomial) (w : Work) (e : List Node × Ending) → Works true w → end_of_work eqs nes w ≡ Some e → HaveFuel e.0
@@ -142,20 +145,21 @@ ended-fuel [] [] (Chaining E k todo fuel) e h q = cc
 ended-fuel [] (p ∷ ps) w e h q = cc
 ended-fuel (p ∷ ps) nes w e h q = cc
 
-within-settled : (t u : State) (path : List Bool) (i : Inside) → HaveFuel t.waiting → Works true i.work → behind t path (end_of (Some i)) ≡ Some u → Settled t u
-within-settled t u path i w h e = by (end_of (Some i)) refl e
+within-settled : (t u : State) (path : List Bool) (i : Inside) → 4 ≤ t.fuel → HaveFuel t.waiting → Works true i.work → behind t path (end_of (Some i)) ≡ Some u → Settled u
+within-settled t u path i some w h e = by (end_of (Some i)) refl e
   where
-    by : (o : Option (List Node × Ending)) → end_of (Some i) ≡ o → behind t path o ≡ Some u → Settled t u
+    by : (o : Option (List Node × Ending)) → end_of (Some i) ≡ o → behind t path o ≡ Some u → Settled u
     by None q r = cc
     by (Some x) q r =
-        let made : Settled t _ = record { waiting = have-append x.0 t.waiting (ended-fuel i.eqs i.nes i.work x h q) w; fuel = refl; between = tt } in
-        subst (Settled t) (same_Some _ u r) made
+        let made : Settled _ = record { enough = some; waiting = have-append x.0 t.waiting (ended-fuel i.eqs i.nes i.work x h q) w; between = tt } in
+        subst Settled (same_Some _ u r) made
 
-opening-settled : (t u : State) → settled t fitting.Opening ≡ Some u → Settled t u
+opening-settled : (t u : State) → settled t fitting.Opening ≡ Some u → Settled u
 opening-settled t u e =
     let f = fits-some (nat_le (size_of (root t)) t.fuel) _ u e in
-    let made : Settled t _ = record { waiting = (leb-true (size_of (root t)) t.fuel f.0, tt); fuel = refl; between = tt } in
-    subst (Settled t) f.1 made
+    let fuel = leb-true (size_of (root t)) t.fuel f.0 in
+    let made : Settled _ = record { enough = omega (arith, fuel); waiting = (fuel, tt); between = tt } in
+    subst Settled f.1 made
 
 -- ---- lines inside a piece
 abbrev IsInner : LogLine → Type 0
@@ -244,13 +248,13 @@ module _ (version : ℕ) (cons : List Polynomial) (i j : Inside) where
   ne-in p w h e = ne-gives p i.eqs i.nes i.work w j h e
 
 -- ---- lines between pieces
-piece-settled : (t u : State) (p : Part) (w : Bool) → ((i : Inside) → Inner p w i → Works true i.work) → HaveFuel t.waiting
-    → (q : fitting.Part) → IsWithin (Inner p w) q → settled t q ≡ Some u → Settled t u
-piece-settled t u p w ends ns fitting.Opening h e = absurd h
-piece-settled t u p w ends ns (fitting.Within path i) h e = within-settled t u path i ns (ends i h) e
-piece-settled t u p w ends ns fitting.Between h e = absurd h
+piece-settled : (t u : State) (p : Part) (w : Bool) → ((i : Inside) → Inner p w i → Works true i.work) → 4 ≤ t.fuel → HaveFuel t.waiting
+    → (q : fitting.Part) → IsWithin (Inner p w) q → settled t q ≡ Some u → Settled u
+piece-settled t u p w ends some ns fitting.Opening h e = absurd h
+piece-settled t u p w ends some ns (fitting.Within path i) h e = within-settled t u path i some ns (ends i h) e
+piece-settled t u p w ends some ns fitting.Between h e = absurd h
 
-root-settled : (t u : State) (q : fitting.Part) → IsOpening q → settled t q ≡ Some u → Settled t u
+root-settled : (t u : State) (q : fitting.Part) → IsOpening q → settled t q ≡ Some u → Settled u
 root-settled t u fitting.Opening h e = opening-settled t u e
 root-settled t u (fitting.Within path i) h e = absurd h
 root-settled t u fitting.Between h e = absurd h
@@ -271,52 +275,59 @@ verdict-leaves : (u v : State) (x : Verdict) (ns : List Node) → verdict_row u 
 verdict-leaves u v x [] e = (fits-some _ u v e).1
 verdict-leaves u v x (n ∷ ns) e = cc
 
-node-after : (t v : State) (path : List Bool) (o : Option State) → ((u : State) → o ≡ Some u → Settled t u) → node_settled path o ≡ Some v
-    → (u : State) × Settled t u × Begun u v
-node-after t v path None ends e = cc
-node-after t v path (Some u) ends e = let s = ends u refl in (u, s, node-begins u v path u.waiting s.waiting e)
+node-after : (v : State) (path : List Bool) (o : Option State) → ((u : State) → o ≡ Some u → Settled u) → node_settled path o ≡ Some v → InProof part.Steps false v
+node-after v path None ends e = cc
+node-after v path (Some u) ends e =
+    let s = ends u refl in
+    let b = node-begins u v path u.waiting s.waiting e in
+    let some = s.enough in
+    let same = b.fuel in
+    record { enough = omega (arith, some, same); waiting = b.waiting; inside = b.inside }
 
-verdict-after : (t v : State) (x : Verdict) (o : Option State) → ((u : State) → o ≡ Some u → Settled t u) → verdict_settled x o ≡ Some v → Settled t v
-verdict-after t v x None ends e = cc
-verdict-after t v x (Some u) ends e = subst (Settled t) (verdict-leaves u v x u.waiting e) (ends u refl)
+verdict-after : (v : State) (x : Verdict) (o : Option State) → ((u : State) → o ≡ Some u → Settled u) → verdict_settled x o ≡ Some v → Settled v
+verdict-after v x None ends e = cc
+verdict-after v x (Some u) ends e = subst Settled (verdict-leaves u v x u.waiting e) (ends u refl)
+
+-- ---- the fuel of the proofs
+-- In the first version each of the proofs has fuel for a root without hypotheses.
+shared : (w : Bool) (t : State) (n : ℕ) → n ≤ MOST_PROOFS → HeadFuel w t → NextFuel n (record t { fuel = share_of t.fuel n })
+shared w t n few h first some = le-div 4 t.fuel n some (let all = (h first).1 in omega (arith, all, few))
+
+-- A fuel is stated only where the version lets a log state it.
+stated : (t : State) (fuel : ℕ) → HeadFuel false t → HeadFuel true (record t { fuel = fuel })
+stated t fuel h first = let e : false ≡ true = (h first).0 in cc
+
+headed : (t : State) (version : ℕ) → HeadFuel (not (has_second version)) (record t { version = version; fuel = FIRST_FUEL })
+headed t version first = (ap not first, refl)
 
 -- ---- one line further
-held : (b : Bool) (u v : Place) → (if b then Some u else None) ≡ Some v → (b ≡ true) × (u ≡ v)
-held true u v e = (refl, same_Some u v e)
-held false u v e = cc
-
-failed : (b : Bool) (u v : Place) → (if b then None else Some u) ≡ Some v → u ≡ v
-failed true u v e = cc
-failed false u v e = same_Some u v e
-
 module _ (s r : Place) (t v : State) where
   abbrev From : Type 0 → Part → Type 0
-  From Goal q = Known q s.proofs s.left s.cons s.whole t → Goal
+  From Goal q = Known q s.left s.cons s.whole t → Goal
 
   from : (Goal : Type 0) (l : LogLine) → Stepped s l r → Stands s t → cases (From Goal) (parts_before (row_of l).word) → Goal
   from Goal l d k c = by_parts (From Goal) (parts_before (row_of l).word) s.part d.stands_here c k
 
-  arrive : (x y : Place) (p : Part) (u : State) → r ≡ record x { part = p } → y ≡ x → u ≡ v → Known p y.proofs y.left y.cons y.whole u → Stands r v
+  arrive : (x y : Place) (p : Part) (u : State) → r ≡ record x { part = p } → y ≡ x → u ≡ v → Known p y.left y.cons y.whole u → Stands r v
   arrive x y p u e f g k =
-      subst (λ z. Stands z v) (sym e) (subst (λ z. Known p z.proofs z.left z.cons z.whole v) f (subst (Known p y.proofs y.left y.cons y.whole) g k))
+      subst (λ z. Stands z v) (sym e) (subst (λ z. Known p z.left z.cons z.whole v) f (subst (Known p y.left y.cons y.whole) g k))
 
   -- a line from one part of a piece to another
   moves : (l : LogLine) (p q : Part) (w : Bool) (x : Place) → IsInner l → r ≡ record x { part = q } → record s { whole = w } ≡ x
-      → ((u : State) → InProof q s.proofs s.left w u → Known q s.proofs s.left s.cons w u)
+      → ((u : State) → InProof q w u → Known q s.left s.cons w u)
       → ((i j : Inside) → Inner p s.whole i → in_piece t.version t.cons i l ≡ Some j → Inner q w j) → after t l ≡ Some v
-      → InProof p s.proofs s.left s.whole t → Stands r v
+      → InProof p s.whole t → Stands r v
   moves l p q w x inner e f known keep a k =
       let m = inward (Inner p s.whole) (Inner q w) t v l inner keep k.inside a in
       arrive x (record s { whole = w }) q (record t { part = fitting.Within m.path m.inside }) e f m.is
-      (known _ (record { shared = k.shared; waiting = k.waiting; inside = m.holds }))
+      (known _ (record { enough = k.enough; waiting = k.waiting; inside = m.holds }))
 
   -- where a piece may end
-  record Closing : Type 0 where
-    shared : Shared s.proofs s.left t.fuel
-    ends : (u : State) → settled t t.part ≡ Some u → Settled t u
+  abbrev Closing : Type 0
+  Closing = (u : State) → settled t t.part ≡ Some u → Settled u
 
-  closes : (p : Part) → ((i : Inside) → Inner p s.whole i → Works true i.work) → InProof p s.proofs s.left s.whole t → Closing
-  closes p ends k = record { shared = k.shared; ends = λ u e. piece-settled t u p s.whole ends k.waiting t.part k.inside e }
+  closes : (p : Part) → ((i : Inside) → Inner p s.whole i → Works true i.work) → InProof p s.whole t → Closing
+  closes p ends k = λ u e. piece-settled t u p s.whole ends k.enough k.waiting t.part k.inside e
 
   closing : s.whole ≡ true → cases (From Closing) (part.Pieces ∷ part.Eqs ∷ part.Nes ∷ [])
   closing w = (
@@ -327,45 +338,44 @@ module _ (s r : Place) (t v : State) where
     ),
   )
 
-  again : (proofs left fuel other : ℕ) → Shared proofs left fuel → other ≡ fuel → Shared proofs left other
-  again proofs left fuel other k e = record { fuel_is = e ∙ k.fuel_is; few = k.few; fewer = k.fewer }
-
   pub keeps : (names : List VarName) (l : LogLine) → IsPosing names l → Stepped s l r → Stands s t → after t l ≡ Some v → Stands r v
   unfolding after
   keeps names (line.Head version) p d k e =
       let b = from (IsBetween t.part) (line.Head version) d k ((λ b. b), tt) in
-      arrive d.counts s part.Head (record t { version = version }) d.behind (same_Some _ _ d.count) (same_Some _ _ e) b
+      arrive d.counts (record s { whole = not (has_second version) }) part.Head (record t { version = version; fuel = FIRST_FUEL }) d.behind (same_Some _ _ d.count)
+      (same_Some _ _ e) (headed t version, b)
+  keeps names (line.Fuel n) p d k e =
+      let b = from (HeadFuel s.whole t × IsBetween t.part) (line.Fuel n) d k ((λ b. b), tt) in
+      let q = failed s.whole (record s { whole = true }) d.counts d.count in
+      arrive d.counts (record s { whole = true }) part.Head (record t { fuel = n }) d.behind q.1 (same_Some _ _ e)
+      (stated t n (subst (λ w. HeadFuel w t) q.0 b.0), b.1)
   keeps names (line.Proves n) p d k e =
-      let b = from (IsBetween t.part) (line.Proves n) d k ((λ b. b), tt) in
-      arrive d.counts (record s { proofs = n; left = n }) part.Between (record t { fuel = MOST_FUEL / n }) d.behind (same_Some _ _ d.count) (same_Some _ _ e)
-      (record { fuel_is = refl; few = p; fewer = omega arith }, b)
+      let b = from (HeadFuel s.whole t × IsBetween t.part) (line.Proves n) d k ((λ b. b), tt) in
+      let q = held s.whole (record s { proofs = n; left = n }) d.counts d.count in
+      arrive d.counts (record s { proofs = n; left = n }) part.Between (record t { fuel = share_of t.fuel n }) d.behind q.1 (same_Some _ _ e)
+      (shared s.whole t n p b.0, b.1)
   keeps names (line.Prove i) p d k e =
-      let b = from (Shared s.proofs s.left t.fuel × IsBetween t.part) (line.Prove i) d k ((λ b. b), tt) in
       let next : Place = record s { left = s.left - 1; hyps = 0; cons = 0 } in
       let q = held ((i == (s.proofs - s.left) + 1) && nat_lt 0 s.left) next d.counts d.count in
-      let c = b.0.fewer in
-      arrive d.counts next part.Prove (record t { hyps = []; cons = []; part = fitting.Opening; waiting = []; tally = no_tally }) d.behind q.1 (same_Some _ _ e)
-      (record { fuel_is = b.0.fuel_is; few = b.0.few; fewer = omega (arith, c) }, tt, refl)
+      arrive d.counts next part.Prove (record t { hyps = []; cons = []; part = fitting.Opening; waiting = []; tally = no_tally }) d.behind q.1 (same_Some _ _ e) (tt, refl)
   keeps names (line.Vars ns) p d k e =
-      let b = from (Shared s.proofs s.left t.fuel × IsOpening t.part × (s.cons ≡ 0)) (line.Vars ns) d k ((λ b. b), tt) in
+      let b = from (IsOpening t.part × (s.cons ≡ 0)) (line.Vars ns) d k ((λ b. b), tt) in
       arrive d.counts s part.Hyps t d.behind (same_Some _ _ d.count) (same_Some _ _ e) b
   keeps names (line.Hyp h) p d k e =
-      let b = from (Shared s.proofs s.left t.fuel × IsOpening t.part × (s.cons ≡ 0)) (line.Hyp h) d k ((λ b. b), tt) in
+      let b = from (IsOpening t.part × (s.cons ≡ 0)) (line.Hyp h) d k ((λ b. b), tt) in
       let next : Place = record s { hyps = s.hyps + 1 } in
       let q = held (nat_lt s.hyps MOST_HYPOTHESES) next d.counts d.count in
       arrive d.counts next part.Hyps (record t { hyps = t.hyps ++ h ∷ [] }) d.behind q.1 (fits-some _ _ v e).1 b
   keeps names (line.Con c) p d k e =
-      let b = from (Shared s.proofs s.left t.fuel × IsOpening t.part) (line.Con c) d k ((λ b. (b.0, b.1)), ((λ b. (b.0, b.1)), tt)) in
+      let b = from (IsOpening t.part) (line.Con c) d k ((λ b. b.0), ((λ b. b.0), tt)) in
       let next : Place = record s { cons = s.cons + 1; whole = true } in
       let q = held (nat_lt s.cons MOST_CONCLUSIONS) next d.counts d.count in
-      arrive d.counts next part.Cons (record t { cons = t.cons ++ c ∷ [] }) d.behind q.1 (fits-some _ _ v e).1 (b.0, b.1, refl)
+      arrive d.counts next part.Cons (record t { cons = t.cons ++ c ∷ [] }) d.behind q.1 (fits-some _ _ v e).1 (b, refl)
   keeps names (line.Node path) p d k e =
       let q = held s.whole (record s { whole = false }) d.counts d.count in
-      let root : From Closing part.Cons = λ b. record { shared = b.0; ends = λ u i. root-settled t u t.part b.1 i } in
+      let root : From Closing part.Cons = λ b u i. root-settled t u t.part b.0 i in
       let c = from Closing (line.Node path) d k (root, closing q.0) in
-      let n = node-after t v path (settled t t.part) c.ends e in
-      arrive d.counts (record s { whole = false }) part.Steps v d.behind q.1 refl
-      (record { shared = again _ _ _ v.fuel c.shared (n.2.fuel ∙ n.1.fuel); waiting = n.2.waiting; inside = n.2.inside })
+      arrive d.counts (record s { whole = false }) part.Steps v d.behind q.1 refl (node-after v path (settled t t.part) c e)
   keeps names (line.Drop i) p d k e =
       from (Stands r v) (line.Drop i) d k (
         (λ b. moves (line.Drop i) part.Steps part.Steps s.whole d.counts (λ _ _. refl) d.behind (same_Some _ _ d.count) (λ u h. h)
@@ -415,23 +425,23 @@ module _ (s r : Place) (t v : State) where
         tt,
       )
   keeps names (line.Chain c) p d k e =
-      let f = failed s.whole (record s { whole = false }) d.counts d.count in
-      let go = λ (q : Part) (b : InProof q s.proofs s.left s.whole t). moves (line.Chain c) q part.Chain false d.counts (λ _ _. refl) d.behind f (λ u h. h)
+      let f = (failed s.whole (record s { whole = false }) d.counts d.count).1 in
+      let go = λ (q : Part) (b : InProof q s.whole t). moves (line.Chain c) q part.Chain false d.counts (λ _ _. refl) d.behind f (λ u h. h)
       (λ x y _. chain-in t.version t.cons x y c) e b in
       from (Stands r v) (line.Chain c) d k (go part.Eqs, (go part.Nes, (go part.Chain, tt)))
   keeps names line.Proved p d k e =
-      let f = failed s.whole (record s { whole = true }) d.counts d.count in
-      let go = λ (q : Part) (b : InProof q s.proofs s.left s.whole t). moves line.Proved q part.Pieces true d.counts (λ _ _. refl) d.behind f (λ u h. h)
+      let f = (failed s.whole (record s { whole = true }) d.counts d.count).1 in
+      let go = λ (q : Part) (b : InProof q s.whole t). moves line.Proved q part.Pieces true d.counts (λ _ _. refl) d.behind f (λ u h. h)
       (λ x y _. proved-in t.version t.cons x y) e b in
       from (Stands r v) line.Proved d k (go part.Eqs, (go part.Nes, (go part.Chain, tt)))
   keeps names (line.Remainder i) p d k e =
-      let f = failed s.whole (record s { whole = true }) d.counts d.count in
-      let go = λ (q : Part) (b : InProof q s.proofs s.left s.whole t). moves (line.Remainder i) q part.Pieces true d.counts (λ _ _. refl) d.behind f (λ u h. h)
+      let f = (failed s.whole (record s { whole = true }) d.counts d.count).1 in
+      let go = λ (q : Part) (b : InProof q s.whole t). moves (line.Remainder i) q part.Pieces true d.counts (λ _ _. refl) d.behind f (λ u h. h)
       (λ x y _. remainder-in t.version t.cons x y i) e b in
       from (Stands r v) (line.Remainder i) d k (go part.Eqs, (go part.Nes, (go part.Chain, tt)))
   keeps names (line.Unreduced i why g) p d k e =
-      let f = failed s.whole (record s { whole = true }) d.counts d.count in
-      let go = λ (q : Part) (b : InProof q s.proofs s.left s.whole t). moves (line.Unreduced i why g) q part.Pieces true d.counts (λ _ _. refl) d.behind f (λ u h. h)
+      let f = (failed s.whole (record s { whole = true }) d.counts d.count).1 in
+      let go = λ (q : Part) (b : InProof q s.whole t). moves (line.Unreduced i why g) q part.Pieces true d.counts (λ _ _. refl) d.behind f (λ u h. h)
       (λ x y _. unreduced-in t.version t.cons x y i why g) e b in
       from (Stands r v) (line.Unreduced i why g) d k (go part.Eqs, (go part.Nes, (go part.Chain, tt)))
   keeps names (line.Eq q) p d k e =
@@ -451,9 +461,9 @@ module _ (s r : Place) (t v : State) where
   keeps names (line.Verdict x) p d k e =
       let q = held s.whole (record s { whole = true }) d.counts d.count in
       let c = from Closing (line.Verdict x) d k (closing q.0) in
-      let n = verdict-after t v x (settled t t.part) c.ends e in
-      arrive d.counts (record s { whole = true }) part.Between v d.behind q.1 refl (again _ _ _ v.fuel c.shared n.fuel, n.between)
+      let n = verdict-after v x (settled t t.part) c e in
+      arrive d.counts (record s { whole = true }) part.Between v d.behind q.1 refl ((λ _ _. n.enough), n.between)
   keeps names line.End p d k e =
-      let b = from (Shared s.proofs s.left t.fuel × IsBetween t.part) line.End d k ((λ b. b), tt) in
+      let b = from (NextFuel s.left t × IsBetween t.part) line.End d k ((λ b. b), tt) in
       let q = held (s.left == 0) s d.counts d.count in
       arrive d.counts s part.Done t d.behind q.1 (same_Some _ _ e) b.1

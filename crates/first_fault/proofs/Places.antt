@@ -1,13 +1,19 @@
--- The parts of a log, and one line of the machine that knows where lines may stand.
-use Rattle.std.proofs.Common.{◌≡◌, ℕ, List, [], ◌∷◌, true, false, ◌||◌, nat_eq, cond, refl, sym, ◌∙◌, ap, subst, Option, Some, None}
+-- The parts of a log, one line of the machine that knows where lines may stand, and where a proof comes next.
+use Rattle.std.proofs.Common.{◌≡◌, ℕ, ◌+◌, ◌-◌, ◌<◌, List, [], ◌∷◌, ◌++◌, Bool, true, false, ◌||◌, ◌&&◌, ◌==◌, nat_eq, nat_lt, cond, refl, sym, ◌∙◌, ap, arith, subst, Option, Some, None}
+use Rattle.std.specs.Prelude.{if◌then◌else◌}
 use Rattle.std.specs.List.{list_any}
-use Rattle.std.proofs.lemmas.Bool.{eqb-true}
-use Rattle.proof_log.specs.Places.{goes, run, stands, number, counted, at_part, part_behind}
+use Rattle.std.proofs.lemmas.Bool.{and_parts, eqb-true}
+use Rattle.std.proofs.lemmas.Bool.Decides.{nat_tests}
+use Rattle.std.proofs.lemmas.Option.{same_Some}
+use Rattle.proof_log.specs.Grammar.{IsFront}
+use Rattle.proof_log.specs.Places.{goes, start, run, stands, number, counted, at_part, part_behind}
 use Rattle.proof_log.specs.Text.{row_of}
 use Rattle.proof_log.specs.declared.line.LogLine.{LogLine}
+use Rattle.proof_log.specs.declared.line.LogLine.TheVariants as line
 use Rattle.proof_log.specs.declared.place.Part.{Part}
 use Rattle.proof_log.specs.declared.place.Part.TheVariants as part
 use Rattle.proof_log.specs.declared.place.Place.{Place}
+use Rattle.proof_log.proofs.Logs.{front_is, no_front, run_snoc}
 
 -- ---- parts
 part_of : ℕ → Part
@@ -74,3 +80,47 @@ run_from o ls = elim o [ None ↦ None | Some t ↦ run t ls ]
 pub one : (s t : Place) (l : LogLine) (ls : List LogLine) → goes s l ≡ Some t → run s (l ∷ ls) ≡ run t ls
 unfolding run
 one s t l ls e = ap (λ o. run_from o ls) e
+
+-- a test that held, and one that did not
+pub held : (b : Bool) (u v : Place) → (if b then Some u else None) ≡ Some v → (b ≡ true) × (u ≡ v)
+held true u v e = (refl, same_Some u v e)
+held false u v e = cc
+
+pub failed : (b : Bool) (u v : Place) → (if b then None else Some u) ≡ Some v → (b ≡ false) × (u ≡ v)
+failed true u v e = cc
+failed false u v e = (refl, same_Some u v e)
+
+-- ---- where a proof comes next
+pub record Next (s : Place) : Type 0 where
+  pub between : s.part ≡ part.Between
+  pub left : 0 < s.left
+
+-- the number of the next proof
+abbrev pub next_number : Place → ℕ
+next_number s = (s.proofs - s.left) + 1
+
+pub next-is : (s r : Place) (k : ℕ) → goes s (line.Prove k) ≡ Some r → Next s
+next-is s r k e =
+    let d = stepped s (line.Prove k) r e in
+    let h = held ((k == next_number s) && nat_lt 0 s.left) (record s { left = s.left - 1; hyps = 0; cons = 0 }) d.counts d.count in
+    let some = (and_parts (k == next_number s) (nat_lt 0 s.left) h.0).1 in
+    record { between = by_parts (λ q. q ≡ part.Between) (part.Between ∷ []) s.part d.stands_here (refl, tt); left = grind (arith, nat_tests) }
+
+pub next-goes : (s : Place) → Next s → goes s (line.Prove (next_number s)) ≡ Some (record s { part = part.Prove; left = s.left - 1; hyps = 0; cons = 0 })
+unfolding goes
+next-goes s n =
+    let at = n.between in
+    let some = n.left in
+    let a : nat_eq (next_number s) (next_number s) ≡ true = grind (arith, nat_tests) in
+    let b : nat_lt 0 s.left ≡ true = grind (arith, nat_tests) in
+    rw (at, a, b) refl
+
+module _ (s : Place) (lines : List LogLine) (here : run start lines ≡ Some s) where
+  pub front-next : (k : ℕ) → IsFront (lines ++ line.Prove k ∷ []) → Next s
+  front-next k f = elim (goes s (line.Prove k)) as (λ o. goes s (line.Prove k) ≡ o → Next s) [
+    | None ↦ λ e. absurd (no_front s lines (line.Prove k) here e f)
+    | Some r ↦ λ e. next-is s r k e
+  ] refl
+
+  pub next-front : Next s → IsFront (lines ++ line.Prove (next_number s) ∷ [])
+  next-front n = front_is _ _ (run_snoc s _ lines (line.Prove (next_number s)) here (next-goes s n))

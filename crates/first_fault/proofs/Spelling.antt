@@ -1,19 +1,25 @@
 -- The lines of an accepted log can be spelled, where those that tell its problems can.
-use Rattle.std.proofs.Common.{◌≡◌, ℕ, ◌+◌, ◌≤◌, suc, List, [], ◌∷◌, ◌++◌, map, length, refl, sym, ◌∙◌, subst, arith, append_assoc}
+use Rattle.std.proofs.Common.{◌≡◌, ℕ, ◌+◌, ◌≤◌, suc, List, [], ◌∷◌, ◌++◌, map, length, Bool, true, false, ◌⊎◌, inl, inr, refl, sym, ◌∙◌, ap, subst, arith, append_assoc}
+use Rattle.std.specs.Prelude.{if◌then◌else◌}
 use Rattle.std.specs.List.{flat_map, AllByRecursion}
 use Rattle.std.proofs.lemmas.List.Elements.{All-from_recursion, recursion_from_All}
 use Rattle.poly_model.specs.Polynomial.{Polynomial}
 use Rattle.poly_model.specs.declared.vars.VarName.{VarName}
+use Rattle.proof_steps.specs.Rules.{has_second}
 use Rattle.tree_laws.specs.Ranges.{IsPolynomial, IsPiece, IsProblem}
 use Rattle.tree_laws.proofs.Ranged.{trees-within}
 use Rattle.proof_log.specs.Accepted.{IsAccepted, IsAcceptedProof, AreAccepted}
 use Rattle.proof_log.specs.Grammar.{IsSized, AreProofs, IsLog}
+use Rattle.proof_log.specs.Headings.{Heading, IsHeading, fuel_lines, share_of}
 use Rattle.proof_log.specs.Lines.{piece_lines, proof_lines, proofs_lines, log_lines}
+use Rattle.proof_log.specs.Settings.{unsettled, AreOf}
 use Rattle.proof_log.specs.Text.{FitsVerdict, IsLine, names_after, AreLines}
-use Rattle.proof_log.specs.declared.limits.TheConstants.{MOST_PROOFS}
+use Rattle.proof_log.specs.declared.limits.TheConstants.{FIRST_FUEL, MOST_PROOFS}
 use Rattle.proof_log.specs.declared.line.LogLine.{LogLine}
 use Rattle.proof_log.specs.declared.line.LogLine.TheVariants as line
 use Rattle.proof_log.specs.declared.log.Proof.{Proof}
+use Rattle.proof_log.proofs.Settled.{AreFirst, log-settled}
+use Rattle.prove_run.proofs.First.{head-first, proofs-first}
 use Rattle.prove_run.proofs.Lines.{AreOver, over-append, over-lines, polynomials-over, pieces-over}
 use Rattle.prove_run.proofs.Told.{verdict-fits}
 use Rattle.first_fault.proofs.Standing.{IsPosing, ArePosing}
@@ -21,6 +27,7 @@ use Rattle.first_fault.proofs.Standing.{IsPosing, ArePosing}
 -- ---- lines that can stand in a log tell so much
 posing : (names : List VarName) (l : LogLine) → IsLine names l → IsPosing names l
 posing names (line.Head v) h = h.0.0
+posing names (line.Fuel n) h = h.0.0
 posing names (line.Proves n) h = h.0.0
 posing names (line.Vars ns) h = h.1
 posing names (line.Hyp p) h = h.1
@@ -115,8 +122,45 @@ proofs-spelled names version fuel k (p ∷ ps) few w a h =
     let rest = proofs-spelled p.problem.vars version fuel (suc k) ps (omega (arith, few)) w.2 a.1 (over-skip p.problem.vars (rest_lines p) more over q.1.1) in
     subst (AreLines names) (sym regroup) (((omega (arith, few), tt), tt), ((tt, q.1.0), over-lines p.problem.vars (rest_lines p) more over rest))
 
-pub log-spelled : (version : ℕ) (log : List Proof) → IsLog log → IsAccepted version log → ArePosing [] (log_lines version log) → AreLines [] (log_lines version log)
+pub log-spelled : (h : Heading) (log : List Proof) → IsLog log → IsAccepted h log → ArePosing [] (log_lines h log) → AreLines [] (log_lines h log)
 unfolding AreLines
-log-spelled version log fits a h =
-    let few = h.1.0 in
-    (((h.0, tt), tt), (((few, tt), tt), proofs-spelled [] version _ 1 log (omega (arith, few)) fits.proofs a h.1.1))
+log-spelled h log fits a p = (((p.0, tt), tt), by (has_second h.version) p.1)
+  where
+    rest : List LogLine
+    rest = line.Proves (length log) ∷ (proofs_lines 1 log ++ line.End ∷ [])
+
+    behind : ArePosing [] rest → AreLines [] rest
+    behind q =
+        let few = q.0 in
+        (((few, tt), tt), proofs-spelled [] h.version (share_of h.fuel (length log)) 1 log (omega (arith, few)) fits.proofs a q.1)
+
+    by : (b : Bool) → ArePosing [] (fuel_lines b h.fuel ++ rest) → AreLines [] (fuel_lines b h.fuel ++ rest)
+    by true q = (((q.0, tt), tt), behind q.1)
+    by false q = behind q
+
+-- ---- headings
+-- Lines show the fuel of their log only where it is stated: where it is not, it is that of all logs of the first version.
+shown : Heading → Heading
+shown h = record h { fuel = if has_second h.version then h.fuel else FIRST_FUEL }
+
+pub record Shown (h : Heading) (log : List Proof) : Type 0 where
+  pub heading : Heading
+  pub stated : IsHeading heading
+  pub lines : log_lines h log ≡ log_lines heading log
+
+pub as-shown : (h : Heading) (log : List Proof) → Shown h log
+unfolding shown
+as-shown h log = record { heading = shown h; stated = λ e. ap (λ b. if b then h.fuel else FIRST_FUEL) e; lines = by (has_second h.version) }
+  where
+    by : (b : Bool) → line.Head h.version ∷ (fuel_lines b h.fuel ++ (line.Proves (length log) ∷ (proofs_lines 1 log ++ line.End ∷ [])))
+        ≡ line.Head h.version ∷ (fuel_lines b (if b then h.fuel else FIRST_FUEL) ++ (line.Proves (length log) ∷ (proofs_lines 1 log ++ line.End ∷ [])))
+    by true = refl
+    by false = refl
+
+-- The lines of an accepted log are lines of its version.
+pub log-own : (h : Heading) (log : List Proof) → IsLog log → AreLines [] (log_lines h log) → AreOf unsettled (log_lines h log)
+log-own h log fits lines = log-settled h log fits.proofs lines (by (has_second h.version))
+  where
+    by : (b : Bool) → (b ≡ true) ⊎ AreFirst (line.Head h.version ∷ (fuel_lines b h.fuel ++ (line.Proves (length log) ∷ (proofs_lines 1 log ++ line.End ∷ []))))
+    by true = inl refl
+    by false = inr (head-first h.version (length log) (proofs_lines 1 log ++ line.End ∷ []) (proofs-first 1 log))

@@ -1,14 +1,15 @@
 -- What is known where lines stand well and fit: of the place that the grammar has, and of the state that the table has.
-use Rattle.std.proofs.Common.{◌≡◌, ℕ, ◌/◌, ◌≤◌, List, [], ◌∷◌, Bool, true, false}
+use Rattle.std.proofs.Common.{◌≡◌, ℕ, ◌<◌, ◌≤◌, List, [], ◌∷◌, Bool, true, false}
 use Rattle.std.specs.Prelude.{IsTrue}
 use Rattle.poly_model.specs.Names.{are_variables}
 use Rattle.poly_model.specs.Polynomial.{Polynomial}
 use Rattle.poly_model.specs.declared.limits.TheConstants.{MOST_FUEL}
 use Rattle.poly_model.specs.declared.vars.VarName.{VarName}
-use Rattle.proof_steps.specs.Rules.{size_of}
+use Rattle.proof_steps.specs.Rules.{has_second, size_of}
+use Rattle.proof_steps.specs.declared.version.TheConstants.{VERSION}
 use Rattle.tree_laws.specs.Costs.{HaveFuel}
 use Rattle.proof_log.specs.Text.{FitsPoly, names_after}
-use Rattle.proof_log.specs.declared.limits.TheConstants.{MOST_PROOFS, VERSION}
+use Rattle.proof_log.specs.declared.limits.TheConstants.{FIRST_FUEL, MOST_PROOFS}
 use Rattle.proof_log.specs.declared.line.LogLine.{LogLine}
 use Rattle.proof_log.specs.declared.line.LogLine.TheVariants as line
 use Rattle.proof_log.specs.declared.place.Part.{Part}
@@ -68,38 +69,42 @@ IsWithin P (fitting.Within path i) = P i
 IsWithin P fitting.Between = ⊥
 
 -- ---- both
--- each proof has its share of the fuel, and so many are left
-pub record Shared (proofs left fuel : ℕ) : Type 0 where
-  pub fuel_is : fuel ≡ MOST_FUEL / proofs
-  pub few : proofs ≤ MOST_PROOFS
-  pub fewer : left ≤ proofs
-
-pub record InProof (p : Part) (proofs left : ℕ) (whole : Bool) (t : State) : Type 0 where
-  pub shared : Shared proofs left t.fuel
+-- A problem that is told has fuel for its root.
+pub record InProof (p : Part) (whole : Bool) (t : State) : Type 0 where
+  pub enough : 4 ≤ t.fuel
   pub waiting : HaveFuel t.waiting
   pub inside : IsWithin (Inner p whole) t.part
 
-abbrev pub Known : Part → (proofs left cons : ℕ) → (whole : Bool) → State → Type 0
-Known part.Start n left c w t = IsBetween t.part
-Known part.Head n left c w t = IsBetween t.part
-Known part.Between n left c w t = Shared n left t.fuel × IsBetween t.part
-Known part.Prove n left c w t = Shared n left t.fuel × IsOpening t.part × (c ≡ 0)
-Known part.Hyps n left c w t = Shared n left t.fuel × IsOpening t.part × (c ≡ 0)
-Known part.Cons n left c w t = Shared n left t.fuel × IsOpening t.part × (w ≡ true)
-Known part.Steps n left c w t = InProof part.Steps n left w t
-Known part.Eqs n left c w t = InProof part.Eqs n left w t
-Known part.Nes n left c w t = InProof part.Nes n left w t
-Known part.Chain n left c w t = InProof part.Chain n left w t
-Known part.Pieces n left c w t = InProof part.Pieces n left w t
-Known part.Done n left c w t = IsBetween t.part
+-- In a version whose logs do not state their fuel, the head is whole and the fuel is that of all such logs, or each proof
+-- that is left has fuel for a root.
+abbrev pub HeadFuel : (whole : Bool) → State → Type 0
+HeadFuel w t = has_second t.version ≡ false → (w ≡ true) × (t.fuel ≡ FIRST_FUEL)
+
+abbrev pub NextFuel : (left : ℕ) → State → Type 0
+NextFuel left t = has_second t.version ≡ false → 0 < left → 4 ≤ t.fuel
+
+abbrev pub Known : Part → (left cons : ℕ) → (whole : Bool) → State → Type 0
+Known part.Start left c w t = IsBetween t.part
+Known part.Head left c w t = HeadFuel w t × IsBetween t.part
+Known part.Between left c w t = NextFuel left t × IsBetween t.part
+Known part.Prove left c w t = IsOpening t.part × (c ≡ 0)
+Known part.Hyps left c w t = IsOpening t.part × (c ≡ 0)
+Known part.Cons left c w t = IsOpening t.part × (w ≡ true)
+Known part.Steps left c w t = InProof part.Steps w t
+Known part.Eqs left c w t = InProof part.Eqs w t
+Known part.Nes left c w t = InProof part.Nes w t
+Known part.Chain left c w t = InProof part.Chain w t
+Known part.Pieces left c w t = InProof part.Pieces w t
+Known part.Done left c w t = IsBetween t.part
 
 abbrev pub Stands : Place → State → Type 0
-Stands s t = Known s.part s.proofs s.left s.cons s.whole t
+Stands s t = Known s.part s.left s.cons s.whole t
 
 -- ---- lines that tell of a log what its proofs don't fix
 -- whether such a line can stand in a log over these variables
 abbrev pub IsPosing : List VarName → LogLine → Type 0
 IsPosing names (line.Head v) = (1 ≤ v) × (v ≤ VERSION)
+IsPosing names (line.Fuel n) = (1 ≤ n) × (n ≤ MOST_FUEL)
 IsPosing names (line.Proves n) = n ≤ MOST_PROOFS
 IsPosing names (line.Vars ns) = IsTrue (are_variables ns)
 IsPosing names (line.Hyp p) = FitsPoly names p

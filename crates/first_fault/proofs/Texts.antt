@@ -40,22 +40,24 @@ begins-text front b = (
   text_of (names_behind [] front) b.more,
   b.log,
   record {
-    version = b.version;
+    heading = b.heading;
+    stated = b.stated;
     fits = b.fits;
     lines = b.spelled;
+    own = b.own;
     text = sym (text_append [] front b.more) ∙ ap (text_of []) (sym b.begins);
     accepted = b.accepted;
   },
 )
 
 before-fault : (front : List LogLine) (s : State) → fitted begin front ≡ Some s → AreLetThrough front → BeginText (text_of [] front) ⊎ Overfills front
-before-fault front s f w = elim (has-room s s.part) [
+before-fault front s f w = elim (has-room front w.grammar s s.part) [
   | inl h ↦ inl (begins-text front (fit-begins front w (record { state = s; fit = f; room = h })))
   | inr h ↦ inr (s, f, h)
 ]
 
 let-in : (front : List LogLine) (rest bytes : List ℕ) → Begins front rest bytes → AreLetThrough front
-let-in front rest bytes b = record { spelled = b.lines; grammar = b.grammar }
+let-in front rest bytes b = record { spelled = b.lines; own = b.own; grammar = b.grammar }
 
 -- ---- a malformed line
 not-malformed : (bytes : List ℕ) (log : List Proof) (n : ℕ) → IsAcceptedText log bytes → IsMalformed n bytes → ⊥
@@ -83,7 +85,7 @@ refused-first n bytes m r = record {
         let again : Refuses m.front ((text_of [] m.front ++ (r.refused ++ 10 ∷ [])) ++ b.0) = record {
           refused = r.refused;
           more = b.0;
-          begins = record { lines = r.begins.lines; grammar = r.begins.grammar; text = regroup (text_of [] m.front) r.refused b.0 };
+          begins = record { lines = r.begins.lines; own = r.begins.own; grammar = r.begins.grammar; text = regroup (text_of [] m.front) r.refused b.0 };
           one_line = r.one_line;
           no_line = r.no_line;
         } in
@@ -132,7 +134,7 @@ rejected-first n w bytes r =
               rest = b.0;
               state = r.state;
               fit = r.fit;
-              begins = record { lines = r.begins.lines; grammar = r.begins.grammar; text = ap (λ t. t ++ b.0) (sym (text_snoc r.front r.line)) };
+              begins = record { lines = r.begins.lines; own = r.begins.own; grammar = r.begins.grammar; text = ap (λ t. t ++ b.0) (sym (text_snoc r.front r.line)) };
               misfit = r.misfit;
               number = r.number;
               word = r.word;

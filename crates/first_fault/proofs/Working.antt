@@ -1,17 +1,14 @@
 -- Lines with which a log goes on to its end: the work on nodes, and the problems that are left.
-use Rattle.std.proofs.Common.{◌≡◌, ℕ, ◌+◌, ◌-◌, ◌/◌, ◌<◌, ◌≤◌, zero, suc, List, [], ◌∷◌, ◌++◌, Bool, true, false, inl, inr, ◌⊎◌, nat_eq, nat_lt, refl, sym, ◌∙◌, ap, subst, arith, Option, Some, None}
+use Rattle.std.proofs.Common.{◌≡◌, ℕ, ◌+◌, ◌-◌, ◌<◌, ◌≤◌, zero, suc, List, [], ◌∷◌, ◌++◌, Bool, true, false, inl, inr, ◌⊎◌, refl, sym, ◌∙◌, ap, subst, arith, Option, Some, None}
 use Rattle.std.specs.Ordering.{int_eq}
 use Rattle.std.proofs.lemmas.Bool.{and_from, le-leb}
-use Rattle.std.proofs.lemmas.Bool.Decides.{nat_tests}
-use Rattle.std.proofs.lemmas.Nat.{le-div}
 use Rattle.poly_model.specs.Equality.{same-self}
 use Rattle.poly_model.specs.Polynomial.{Polynomial}
 use Rattle.poly_model.specs.Reduction.{same, is_nonzero_constant, primitive_initial, primitive_tail, reduction_of}
 use Rattle.poly_model.specs.declared.limits.Reason.{Reason}
-use Rattle.poly_model.specs.declared.limits.TheConstants.{MOST_FUEL}
 use Rattle.poly_model.specs.declared.vars.VarName.{VarName}
 use Rattle.proof_steps.specs.Numbers.{item, has, replaced}
-use Rattle.proof_steps.specs.Rules.{is_valid, is_triangular, reason_of, made, attempt_of, tells_result, stepped, size_of, plus_child}
+use Rattle.proof_steps.specs.Rules.{has_second, is_valid, is_triangular, reason_of, made, attempt_of, tells_result, stepped, size_of, plus_child}
 use Rattle.proof_steps.specs.Work as work
 use Rattle.proof_steps.specs.Work.{Next, next}
 use Rattle.proof_steps.specs.declared.piece.Node.{Node}
@@ -28,8 +25,11 @@ use Rattle.tree_laws.proofs.Paid.{have-append, fuel-append, reasons-are-right}
 use Rattle.tree_laws.proofs.Unfold.{size-some, stepped-fit}
 use Rattle.verdicts.specs.Tallies.{Ending, Parts, Empty, Stops, Tally, no_tally, tally_after, verdict_told}
 use Rattle.verdicts.specs.declared.verdict.Verdict.{Verdict}
-use Rattle.proof_log.specs.Places.{goes}
+use Rattle.proof_log.specs.Headings.{share_of}
+use Rattle.proof_log.specs.Places.{goes, start, run}
 use Rattle.proof_log.specs.Lines.{step_line}
+use Rattle.proof_log.specs.declared.limits.TheConstants.{FIRST_FUEL}
+use Rattle.proof_log.specs.declared.line.LogLine.{LogLine}
 use Rattle.proof_log.specs.declared.line.LogLine.TheVariants as line
 use Rattle.proof_log.specs.declared.place.Part.{Part}
 use Rattle.proof_log.specs.declared.place.Part.TheVariants as part
@@ -38,7 +38,8 @@ use Rattle.log_checker.specs.Fitting as fitting
 use Rattle.log_checker.specs.Fitting.{Work, At, Chaining, Ended, Inside, State, root, listed, where_fits, in_piece, node_row, node_settled, verdict_row, after}
 use Rattle.log_checker.proofs.Fits.{same_verdict-self}
 use Rattle.first_fault.specs.FirstFault.{RootHasFuel, HasRoom}
-use Rattle.first_fault.proofs.Standing.{Works, Inner, Shared, InProof, Known, Stands, IsPosing}
+use Rattle.first_fault.proofs.Places.{next_number, next-goes, next-front}
+use Rattle.first_fault.proofs.Standing.{IsBetween, Works, Inner, InProof, NextFuel, Known, Stands, IsPosing}
 use Rattle.first_fault.proofs.Ending.{Ends, at-end, before, three, IsChain, IsEnd, IsInner, fits-from, here, within, inner, lists, nes-listed, chains}
 
 inner-step : (s : Step) → IsInner (step_line s)
@@ -346,33 +347,24 @@ prove-end s o between enough =
 prove-goes : (s : Place) (left : ℕ)
     → goes (record s { part = part.Between; left = suc left }) (line.Prove ((s.proofs - suc left) + 1))
     ≡ Some (record s { part = part.Prove; left = left; hyps = 0; cons = 0 })
-unfolding goes
 prove-goes s left =
-    let a : nat_eq ((s.proofs - suc left) + 1) ((s.proofs - suc left) + 1) ≡ true = grind (arith, nat_tests) in
-    let b : nat_lt 0 (suc left) ≡ true = grind (arith, nat_tests) in
-    rw (a, b) (ap (λ m. Some (record s { part = part.Prove; left = m; hyps = 0; cons = 0 })) (let f : suc left - 1 ≡ left = omega arith in f))
+    next-goes (record s { part = part.Between; left = suc left }) (record { between = refl; left = omega arith })
+    ∙ ap (λ m. Some (record s { part = part.Prove; left = m; hyps = 0; cons = 0 })) (let f : suc left - 1 ≡ left = omega arith in f)
 
--- Each of the proofs of a log has fuel for a root without hypotheses.
-share : (n : ℕ) → n ≤ 16 → 0 < n → 4 ≤ MOST_FUEL / n
-share n few some = le-div 4 MOST_FUEL n some (omega arith)
-
-proofs : (left : ℕ) (s : Place) (t : State) → Shared s.proofs left t.fuel → Ends (record s { part = part.Between; left = left }) t
+-- Each proof that is left has fuel for a root without hypotheses.
+proofs : (left : ℕ) (s : Place) (t : State) → (0 < left → 4 ≤ t.fuel) → Ends (record s { part = part.Between; left = left }) t
 unfolding goes after
-proofs zero s t k =
+proofs zero s t enough =
     before (record s { part = part.Between; left = 0 }) (record s { part = part.Done; left = 0 }) t t line.End refl refl (λ _. tt)
     (at-end (record s { part = part.Done; left = 0 }) t refl)
-proofs (suc left) s t k =
-    let few = k.few in
-    let fewer = k.fewer in
-    let fuel = k.fuel_is in
-    let enough : 4 ≤ MOST_FUEL / s.proofs = share s.proofs few (omega (arith, fewer)) in
+proofs (suc left) s t enough =
+    let some = enough (omega arith) in
     let first : State = record t { hyps = []; cons = []; waiting = []; tally = no_tally } in
     before (record s { part = part.Between; left = suc left }) (record s { part = part.Prove; left = left; hyps = 0; cons = 0 }) t
     (record first { part = fitting.Opening }) (line.Prove ((s.proofs - suc left) + 1)) (prove-goes s left) refl (λ _. tt)
     (prove-end (record s { left = left; hyps = 0 }) first
-    (λ hyps cons h c x. proofs left (record s { hyps = h; cons = c; whole = true }) (record t { hyps = hyps; cons = cons; part = fitting.Between; waiting = []; tally = x })
-    (record { fuel_is = fuel; few = few; fewer = omega (arith, fewer) }))
-    (omega (arith, enough, fuel)))
+    (λ hyps cons h c x. proofs left (record s { hyps = h; cons = c; whole = true }) (record t { hyps = hyps; cons = cons; part = fitting.Between; waiting = []; tally = x }) (λ _. some))
+    some)
 
 -- ---- from each place
 module _ (s : Place) (t : State) where
@@ -380,62 +372,89 @@ module _ (s : Place) (t : State) where
   Here p q = Ends (record s { part = p }) (record t { part = q })
 
   abbrev Knows : Part → fitting.Part → Type 0
-  Knows p q = Known p s.proofs s.left s.cons s.whole (record t { part = q })
+  Knows p q = Known p s.left s.cons s.whole (record t { part = q })
 
-  others : Shared s.proofs s.left t.fuel → Between s t
-  others k hyps cons h c x =
-      proofs s.left (record s { hyps = h; cons = c; whole = true }) (record t { hyps = hyps; cons = cons; part = fitting.Between; waiting = []; tally = x }) k
+  others : 4 ≤ t.fuel → Between s t
+  others enough hyps cons h c x =
+      proofs s.left (record s { hyps = h; cons = c; whole = true }) (record t { hyps = hyps; cons = cons; part = fitting.Between; waiting = []; tally = x }) (λ _. enough)
 
-  head-end : (q : fitting.Part) → Here part.Head q
+  -- where the root has fuel for its size
+  others-behind : size_of (root t) ≤ t.fuel → Between s t
+  others-behind room = others (let some = size-some (root t) in omega (arith, some, room))
+
+  -- behind a whole head
+  proves-end : (q : fitting.Part) → Ends (record s { part = part.Head; whole = true }) (record t { part = q })
   unfolding goes after
-  head-end q =
-      let next : State = record t { fuel = MOST_FUEL / 0; part = q } in
-      before (record s { part = part.Head }) (record s { part = part.Between; proofs = 0; left = 0 }) (record t { part = q }) next (line.Proves 0) refl refl (λ _. omega arith)
-      (proofs 0 (record s { proofs = 0 }) next (record { fuel_is = refl; few = omega arith; fewer = omega arith }))
+  proves-end q =
+      let next : State = record t { fuel = share_of t.fuel 0; part = q } in
+      before (record s { part = part.Head; whole = true }) (record s { part = part.Between; proofs = 0; left = 0; whole = true }) (record t { part = q }) next (line.Proves 0)
+      refl refl (λ _. omega arith) (proofs 0 (record s { proofs = 0; whole = true }) next (λ none. absurd (omega (arith, none))))
 
-  within-end : (p : Part) (q : fitting.Part) → InProof p s.proofs s.left s.whole (record t { part = q }) → Here p q
+  within-end : (p : Part) (q : fitting.Part) → InProof p s.whole (record t { part = q }) → Here p q
   within-end p fitting.Opening k = absurd k.inside
-  within-end p (fitting.Within path i) k = inside s t (λ x. others k.shared t.hyps t.cons s.hyps s.cons x) path t.waiting t.tally k.waiting p s.whole i k.inside
+  within-end p (fitting.Within path i) k = inside s t (λ x. others k.enough t.hyps t.cons s.hyps s.cons x) path t.waiting t.tally k.waiting p s.whole i k.inside
   within-end p fitting.Between k = absurd k.inside
 
-  cons-part : (q : fitting.Part) → Knows part.Cons q → RootHasFuel t q → Here part.Cons q
-  cons-part fitting.Opening k room =
-      subst (λ w. Ends (record s { part = part.Cons; whole = w }) (record t { part = fitting.Opening })) (sym k.2) (cons-end s t (others k.0) room)
-  cons-part (fitting.Within path i) k room = absurd k.1
-  cons-part fitting.Between k room = absurd k.1
+  cons-part : (lines : List LogLine) (q : fitting.Part) → Knows part.Cons q → RootHasFuel lines t q → Here part.Cons q
+  cons-part lines fitting.Opening k room =
+      subst (λ w. Ends (record s { part = part.Cons; whole = w }) (record t { part = fitting.Opening })) (sym k.1) (cons-end s t (others-behind room) room)
+  cons-part lines (fitting.Within path i) k room = absurd k.0
+  cons-part lines fitting.Between k room = absurd k.0
 
-  hyps-part : (q : fitting.Part) → Knows part.Hyps q → RootHasFuel t q → Here part.Hyps q
-  hyps-part fitting.Opening k room =
-      subst (λ c. Ends (record s { part = part.Hyps; cons = c }) (record t { part = fitting.Opening })) (sym k.2) (hyps-end s t (others k.0) room)
-  hyps-part (fitting.Within path i) k room = absurd k.1
-  hyps-part fitting.Between k room = absurd k.1
+  hyps-part : (lines : List LogLine) (q : fitting.Part) → Knows part.Hyps q → RootHasFuel lines t q → Here part.Hyps q
+  hyps-part lines fitting.Opening k room =
+      subst (λ c. Ends (record s { part = part.Hyps; cons = c }) (record t { part = fitting.Opening })) (sym k.1) (hyps-end s t (others-behind room) room)
+  hyps-part lines (fitting.Within path i) k room = absurd k.0
+  hyps-part lines fitting.Between k room = absurd k.0
 
-  prove-part : (q : fitting.Part) → Knows part.Prove q → RootHasFuel t q → Here part.Prove q
-  prove-part fitting.Opening k room =
-      subst (λ c. Ends (record s { part = part.Prove; cons = c }) (record t { part = fitting.Opening })) (sym k.2) (prove-end s t (others k.0) room)
-  prove-part (fitting.Within path i) k room = absurd k.1
-  prove-part fitting.Between k room = absurd k.1
+  prove-part : (lines : List LogLine) (q : fitting.Part) → Knows part.Prove q → RootHasFuel lines t q → Here part.Prove q
+  prove-part lines fitting.Opening k room =
+      subst (λ c. Ends (record s { part = part.Prove; cons = c }) (record t { part = fitting.Opening })) (sym k.1) (prove-end s t (others-behind room) room)
+  prove-part lines (fitting.Within path i) k room = absurd k.0
+  prove-part lines fitting.Between k room = absurd k.0
+
+-- the head, and the fuel where it is to be stated
+head-end : (s : Place) (t : State) (q : fitting.Part) → Here s t part.Head q
+unfolding goes after
+head-end s t q = by s.whole
+  where
+    by : (w : Bool) → Ends (record s { part = part.Head; whole = w }) (record t { part = q })
+    by true = proves-end s t q
+    by false =
+        before (record s { part = part.Head; whole = false }) (record s { part = part.Head; whole = true }) (record t { part = q }) (record t { fuel = 1; part = q })
+        (line.Fuel 1) refl refl (λ _. (omega arith, omega arith)) (proves-end s (record t { fuel = 1 }) q)
 
 start-end : (s : Place) (t : State) (q : fitting.Part) → Here s t part.Start q
 unfolding goes after
 start-end s t q =
-    before (record s { part = part.Start }) (record s { part = part.Head }) (record t { part = q }) (record t { version = 1; part = q }) (line.Head 1) refl refl
-    (λ _. (omega arith, omega arith)) (head-end s (record t { version = 1 }) q)
+    before (record s { part = part.Start }) (record s { part = part.Head; whole = true }) (record t { part = q }) (record t { version = 1; fuel = FIRST_FUEL; part = q })
+    (line.Head 1) refl refl (λ _. (omega arith, omega arith)) (proves-end s (record t { version = 1; fuel = FIRST_FUEL }) q)
+
+-- a proof that comes next has fuel for a root
+next-enough : (lines : List LogLine) (s : Place) (t : State) → run start lines ≡ Some s → s.part ≡ part.Between → NextFuel s.left t → (q : fitting.Part) → IsBetween q
+    → RootHasFuel lines t q → 0 < s.left → 4 ≤ t.fuel
+next-enough lines s t here at first fitting.Between b room some = by (has_second t.version) refl
+  where
+    by : (b : Bool) → has_second t.version ≡ b → 4 ≤ t.fuel
+    by true e = room e (next_number s) (next-front s lines here (record { between = at; left = some }))
+    by false e = first e some
+next-enough lines s t here at first fitting.Opening b room some = absurd b
+next-enough lines s t here at first (fitting.Within path i) b room some = absurd b
 
 -- Behind lines that stand well and fit, where the root has room, a log goes on to its end.
-pub goes-on : (s : Place) (t : State) → Stands s t → HasRoom t → Ends s t
-goes-on s t k room = by s.part k
+pub goes-on : (lines : List LogLine) (s : Place) (t : State) → run start lines ≡ Some s → Stands s t → HasRoom lines t → Ends s t
+goes-on lines s t here k room = by s.part refl k
   where
-    by : (p : Part) → Known p s.proofs s.left s.cons s.whole t → Here s t p t.part
-    by part.Start k = start-end s t t.part
-    by part.Head k = head-end s t t.part
-    by part.Between k = proofs s.left s t k.0
-    by part.Prove k = prove-part s t t.part k room
-    by part.Hyps k = hyps-part s t t.part k room
-    by part.Cons k = cons-part s t t.part k room
-    by part.Steps k = within-end s t part.Steps t.part k
-    by part.Eqs k = within-end s t part.Eqs t.part k
-    by part.Nes k = within-end s t part.Nes t.part k
-    by part.Chain k = within-end s t part.Chain t.part k
-    by part.Pieces k = within-end s t part.Pieces t.part k
-    by part.Done k = at-end (record s { part = part.Done }) t refl
+    by : (p : Part) → s.part ≡ p → Known p s.left s.cons s.whole t → Here s t p t.part
+    by part.Start e k = start-end s t t.part
+    by part.Head e k = head-end s t t.part
+    by part.Between e k = proofs s.left s t (next-enough lines s t here e k.0 t.part k.1 room)
+    by part.Prove e k = prove-part s t lines t.part k room
+    by part.Hyps e k = hyps-part s t lines t.part k room
+    by part.Cons e k = cons-part s t lines t.part k room
+    by part.Steps e k = within-end s t part.Steps t.part k
+    by part.Eqs e k = within-end s t part.Eqs t.part k
+    by part.Nes e k = within-end s t part.Nes t.part k
+    by part.Chain e k = within-end s t part.Chain t.part k
+    by part.Pieces e k = within-end s t part.Pieces t.part k
+    by part.Done e k = at-end (record s { part = part.Done }) t refl

@@ -1,12 +1,15 @@
 -- The place of a fault, without the table of fitting lines: which lines begin those of an accepted log.
-use Rattle.std.specs.Prelude.{◌≡◌, ◌↔◌, ◌+◌, ◌≤◌, ◌⊎◌, ℕ, List, [], ◌∷◌, ◌++◌, length, Some, None}
+use Rattle.std.specs.Prelude.{◌≡◌, ◌↔◌, ◌+◌, ◌≤◌, ◌⊎◌, ℕ, List, [], ◌∷◌, ◌++◌, length, Some, None, IsTrue}
 use Rattle.desk_io.specs.Characters.{line_feed}
-use Rattle.proof_steps.specs.Rules.{size_of}
+use Rattle.proof_steps.specs.Rules.{has_second, size_of}
 use Rattle.proof_log.specs.Accepted.{IsAccepted}
 use Rattle.proof_log.specs.Grammar.{IsFront, IsLog, IsUnended}
+use Rattle.proof_log.specs.Headings.{Heading, IsHeading}
 use Rattle.proof_log.specs.Lines.{log_lines}
+use Rattle.proof_log.specs.Settings.{unsettled, AreOf}
 use Rattle.proof_log.specs.Text.{text_of, AreLines}
 use Rattle.proof_log.specs.declared.line.LogLine.{LogLine}
+use Rattle.proof_log.specs.declared.line.LogLine.TheVariants as line
 use Rattle.proof_log.specs.declared.line.LineWord.{LineWord}
 use Rattle.proof_log.specs.declared.log.Proof.{Proof}
 use Rattle.log_checker.specs.Answers.{IsAcceptedText, IsMalformed, IsRejected}
@@ -14,32 +17,39 @@ use Rattle.log_checker.specs.Fitting.{Part, Opening, Within, Between, State, beg
 
 -- The lines begin those of an accepted log.
 pub record BeginAccepted (lines : List LogLine) : Type 0 where
-  pub version : ℕ
+  pub heading : Heading
+  pub stated : IsHeading heading
   pub log : List Proof
   pub fits : IsLog log
-  pub spelled : AreLines [] (log_lines version log)
-  pub accepted : IsAccepted version log
+  pub spelled : AreLines [] (log_lines heading log)
+  pub own : AreOf unsettled (log_lines heading log)
+  pub accepted : IsAccepted heading log
   pub more : List LogLine
-  pub begins : log_lines version log ≡ lines ++ more
+  pub begins : log_lines heading log ≡ lines ++ more
+
+-- Where a proof comes next, and the version lets a log state its fuel, a root without hypotheses has fuel.
+abbrev pub NextHasFuel : List LogLine → State → Type 0
+NextHasFuel lines s = IsTrue (has_second s.version) → (k : ℕ) → IsFront (lines ++ line.Prove k ∷ []) → size_of (root (record s { hyps = [] })) ≤ s.fuel
 
 -- Where a problem is being told, its root has fuel for its size so far.
-abbrev pub RootHasFuel : State → Part → Type 0
-RootHasFuel s Opening = size_of (root s) ≤ s.fuel
-RootHasFuel s (Within path i) = Unit {0}
-RootHasFuel s Between = Unit {0}
+abbrev pub RootHasFuel : List LogLine → State → Part → Type 0
+RootHasFuel lines s Opening = size_of (root s) ≤ s.fuel
+RootHasFuel lines s (Within path i) = Unit {0}
+RootHasFuel lines s Between = NextHasFuel lines s
 
-abbrev pub HasRoom : State → Type 0
-HasRoom s = RootHasFuel s s.part
+abbrev pub HasRoom : List LogLine → State → Type 0
+HasRoom lines s = RootHasFuel lines s s.part
 
 -- Each line fits, and the root has room.
 pub record Fit (lines : List LogLine) : Type 0 where
   pub state : State
   pub fit : fitted begin lines ≡ Some state
-  pub room : HasRoom state
+  pub room : HasRoom lines state
 
 -- Lines that the grammar lets through.
 pub record AreLetThrough (lines : List LogLine) : Type 0 where
   pub spelled : AreLines [] lines
+  pub own : AreOf unsettled lines
   pub grammar : IsFront lines
 
 -- A line that does not fit behind these.
@@ -52,9 +62,9 @@ IsUnfit front line = (s : State) × (fitted begin front ≡ Some s) × (after s 
 abbrev pub FittingBegins : Type 0
 FittingBegins = (lines : List LogLine) → AreLetThrough lines → Fit lines ↔ BeginAccepted lines
 
--- The root that is told by these lines has no fuel for its size.
+-- The root that is told by these lines, or by those that come next, has no fuel for its size.
 abbrev pub Overfills : List LogLine → Type 0
-Overfills lines = (s : State) × (fitted begin lines ≡ Some s) × (HasRoom s → ⊥)
+Overfills lines = (s : State) × (fitted begin lines ≡ Some s) × (HasRoom lines s → ⊥)
 
 -- The lines before this one begin an accepted log, and together with it they begin none.
 abbrev pub IsFirst : List LogLine → LogLine → Type 0

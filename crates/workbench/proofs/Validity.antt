@@ -68,7 +68,7 @@ drop-is version base s b i h st n =
     let N = (node_at s b).nes in
     let before : has_polynomial (take (i - 1) (node_at s b).eqs) (held_at s h) ≡ among_in (held_at s) (take (i - 1) b.eqs.items) h =
     ap (λ l. has_polynomial l (held_at s h)) (take-map (held_at s) (i - 1) b.eqs.items)
-        ∙ tied.among-tied (held_at s) N (take (i - 1) b.eqs.items) h (tied.tell-take (held_at s) N (i - 1) b.eqs.items st.tell) f.tells in
+    ∙ tied.among-tied (held_at s) N (take (i - 1) b.eqs.items) h (tied.tell-take (held_at s) N (i - 1) b.eqs.items st.tell) f.tells in
     sym (λ j. f.there j && ((ap is_zero f.here ∙ tied.zero-told N h (held_at s h) f.tells) j || (ap (has_polynomial (take (i - 1) (node_at s b).eqs)) f.here ∙ before) j))
 
 pub zero-drop : (version : ℕ) (base s : State) (b : Bench) (i : ℕ) (h : Held) → Stands base s [] b → IsNumbered b.eqs.items i h → h.terms ≡ 0 → true ≡ is_valid version (node_at s b) (attempt.Drop i)

@@ -51,12 +51,7 @@ pub fn reduce<S: TermStore>(
 }
 
 /// Cuts an equation to its tail, or tells what stops the cut.
-pub fn cut<S: TermStore>(
-    version: u8,
-    s: &mut S,
-    bench: &mut Bench,
-    f: u16,
-) -> Result<(), Reason>
+pub fn cut<S: TermStore>(version: u8, s: &mut S, bench: &mut Bench, f: u16) -> Result<(), Reason>
     requires stands { Stands (beneath (S.state s.old) bench.old) (S.state s.old) [] bench.old }
     requires valid { is_valid version (node_at (S.state s.old) bench.old) (Tail f) ≡ true }
     requires room { EXPAND_UNITS ≤ (beneath (S.state s.old) bench.old).spare }

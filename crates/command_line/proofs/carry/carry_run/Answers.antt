@@ -1,8 +1,7 @@
 use Rattle.std.proofs.Common.{Some, inl, inr}
-use Rattle.command_line.specs.Table.{CarryOf, IsAnswer}
+use Rattle.command_line.specs.Table.{CarryOf}
 use Rattle.command_line.specs.Contract.{lent, views}
 use Rattle.command_line.proofs.CarryingFacts.{no_usage}
-use Rattle.command_line.proofs.Decided.{decided}
 use Rattle.command_line.proofs.Runs.{run_of}
 use Rattle.command_line.proofs.carry.carry_run.Goals as goal
 
@@ -24,6 +23,4 @@ returns-clause-carried g c = record {
 pub returns-clause-headline : goal.returns-clause-headline
 returns-clause-headline g c =
     let form = Some (CarryOf c.args.log.now c.args.file.now c.args.figure.now) in
-    let held = g.K.Desk.held c.args.desk.now in
-    c.a_yes_is_assured.ensures form held c.carry_answered.result
-    (decided held _ (IsAnswer form) _ _ _ _ c.carry_answered.result c.carry_answered.ensures.answered)
+    c.a_yes_is_assured.ensures form (g.K.Desk.held c.args.desk.now) _ _ _ _ _ _ c.carry_answered.result c.carry_answered.ensures.answered

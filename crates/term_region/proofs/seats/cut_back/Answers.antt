@@ -3,7 +3,7 @@ use Rattle.std.proofs.lemmas.List as lists
 use Rattle.term_region.specs.declared.run.Run.{Run}
 use Rattle.term_region.specs.Pool.{run_at}
 use Rattle.term_region.proofs.Orders as orders
-use Rattle.term_region.proofs.seats.last_end.Goals as goal
+use Rattle.term_region.proofs.seats.cut_back.Goals as goal
 
 -- what is known of the last entry that is left
 record Last (rs : List Run) (order : List ℕ) (entries slot : ℕ) : Type 0 where
