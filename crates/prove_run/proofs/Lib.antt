@@ -1,4 +1,4 @@
-mod First
+pub mod First
 pub mod Posed
 pub mod Lines
 pub mod Told

@@ -12,9 +12,6 @@ use poly_model::Term;
 use std::alloc::{AllocError, Global};
 use term_store::{Slot, StoreFault, TermStore};
 
-/// A pool is gathered early where it is longer by this than twice what is live, so that its terms stay in near memory.
-const SLACK: usize = 8_192;
-
 impl TermRegion {
     /// A store with so many units, and no list.
     pub fn open(alloc: Global, units: usize) -> Result<TermRegion, AllocError>
@@ -61,15 +58,12 @@ impl TermStore for TermRegion {
     }
 
     fn fresh(&mut self) -> Slot {
-        let most = (self.total - self.spare)
-            .saturating_mul(2)
-            .saturating_add(SLACK);
         make_way(
             &mut self.terms,
             &mut self.runs,
             &mut self.order,
             self.total,
-            most,
+            self.total - self.spare,
         );
         let run = Run {
             live: true,
@@ -101,12 +95,12 @@ impl TermStore for TermRegion {
     }
 
     fn free(&mut self, slot: Slot) {
-        let len = self.runs[slot.0].len;
+        let run = self.runs[slot.0];
         vacate(&mut self.runs, &mut self.vacant, slot.0);
         self.newest = without(self.newest, slot.0);
-        let end = last_end(&self.runs, &mut self.order, self.terms.len());
+        let end = last_end(&self.runs, &mut self.order, self.terms.len(), run.rank);
         self.terms.truncate(end);
-        self.spare += len + 1;
+        self.spare += run.len + 1;
     }
 
     fn len(&self, slot: Slot) -> usize {

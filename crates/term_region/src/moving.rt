@@ -122,13 +122,17 @@ pub fn make_room(terms: &mut Vec<Term>, runs: &mut Vec<Run>, order: &mut Vec<usi
     }
 }
 
-/// Moves the live runs down where the order is used up, or where the pool is much longer than what is live.
+/// A pool is gathered early where it is longer by this than twice what is live, so that its terms stay in near memory.
+const SLACK: usize = 8_192;
+
+/// Moves the live runs down where the order is used up, or where the pool is much longer than the units that are live.
+#[inline(always)]
 pub fn make_way(
     terms: &mut Vec<Term>,
     runs: &mut Vec<Run>,
     order: &mut Vec<usize>,
     total: usize,
-    most: usize,
+    live: usize,
 )
     requires ordered { Ordered runs.old.items order.old.items (length terms.old.items) }
     requires spare { sum_of units_of runs.old.items < total }
@@ -142,7 +146,7 @@ pub fn make_way(
     ensures runs_room { vec_capacity runs.new ≡ vec_capacity runs.old }
     ensures order_room { vec_capacity order.new ≡ vec_capacity order.old }
 {
-    if terms.len() > most || order.len() == total {
+    if order.len() == total || (terms.len() > SLACK && (terms.len() - SLACK) / 2 > live) {
         compact(terms, runs, order);
     }
 }

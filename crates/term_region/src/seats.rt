@@ -7,6 +7,7 @@ use crate::run::Run;
 use poly_model::Term;
 
 /// Puts a live run at a vacant slot, or at one more, and answers the slot.
+#[inline(always)]
 pub fn seat(runs: &mut Vec<Run>, vacant: &mut Vec<usize>, run: Run) -> usize
     requires live { run.live ≡ true }
     requires vacant { Vacant runs.old.items vacant.old.items }
@@ -75,6 +76,7 @@ pub fn append(terms: &mut Vec<Term>, runs: &mut Vec<Run>, slot: usize, term: Ter
 }
 
 /// Gives the run of a slot up, and the slot back.
+#[inline(always)]
 pub fn vacate(runs: &mut Vec<Run>, vacant: &mut Vec<usize>, slot: usize)
     requires live { (run_at runs.old.items slot).live ≡ true }
     requires vacant { Vacant runs.old.items vacant.old.items }
@@ -121,8 +123,9 @@ fn entries_left(runs: &[Run], order: &[usize]) -> usize
     0
 }
 
-/// Gives up the last entries that are no run's, and answers where the last run ends.
-pub fn last_end(runs: &[Run], order: &mut Vec<usize>, most: usize) -> usize
+// Gives up the last entries that are no run's, and answers where the last run ends.
+#[inline(never)]
+fn cut_back(runs: &[Run], order: &mut Vec<usize>, most: usize) -> usize
     requires ordered { Ordered runs.now order.old.items most }
     ensures ordered { Ordered runs.now order.new.items result }
     ensures shorter { length order.new.items ≤ length order.old.items }
@@ -141,7 +144,27 @@ pub fn last_end(runs: &[Run], order: &mut Vec<usize>, most: usize) -> usize
     run.start + run.len
 }
 
+/// Answers where the last run ends, once the run of a rank is given up. Where it was the last one, the last entries that are no
+/// run's are given up; else they stay as they are, which costs less.
+#[inline(always)]
+pub fn last_end(runs: &[Run], order: &mut Vec<usize>, most: usize, rank: usize) -> usize
+    requires ordered { Ordered runs.now order.old.items most }
+    requires rank { rank < length order.old.items }
+    ensures ordered { Ordered runs.now order.new.items result }
+    ensures shorter { length order.new.items ≤ length order.old.items }
+    ensures within { result ≤ most }
+    ensures last { (k : ℕ) → IsTrue (ends_last runs.now (length order.old.items) most k)
+        → IsTrue (ends_last runs.now (length order.new.items) result k) }
+    ensures order_room { vec_capacity order.new ≡ vec_capacity order.old }
+{
+    if order.len() - rank > 1 {
+        return most;
+    }
+    cut_back(runs, order, most)
+}
+
 /// The newest list, once a list is given up.
+#[inline(always)]
 pub fn without(newest: Option<usize>, slot: usize) -> Option<usize>
     ensures { result ≡ newest_without slot newest }
 {

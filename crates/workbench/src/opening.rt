@@ -16,7 +16,6 @@ use proof_steps::Node;
 use std::alloc::{AllocError, Global};
 use term_store::TermStore;
 
-
 /// Copies of these in the store.
 fn copy_all<S: TermStore>(
     alloc: Global,

@@ -10,26 +10,33 @@ use Rattle.term_region.proofs.Lists as lists
 use Rattle.term_region.proofs.Settling as settling
 use Rattle.term_region.proofs.calls.TermRegionTermStore.free.Goals as goal
 
-pub index-requires : goal.index-requires
-index-requires c =
+pub index-run-requires : goal.index-run-requires
+index-run-requires c =
     let s = c.args.self.now in
     omega (arith, live-below s.runs.items c.args.slot.0 (lists.live-run s.terms.items s.runs.items c.args.slot.0 c.requires))
 
 pub vacate-requires-clause-live : goal.vacate-requires-clause-live
 vacate-requires-clause-live c = lists.live-run c.args.self.now.terms.items c.args.self.now.runs.items c.args.slot.0 c.requires
 
+pub last_end-end-requires-clause-rank : goal.last_end-end-requires-clause-rank
+last_end-end-requires-clause-rank c =
+    let s = c.args.self.now in
+    let live = lists.live-run s.terms.items s.runs.items c.args.slot.0 c.requires in
+    let is : c.index-run.result.now ≡ run_at s.runs.items c.args.slot.0 = get_or_read_under s.runs.items c.args.slot.0 _ c.index-run.result.now no_run c.index-run.ensures (live-below s.runs.items c.args.slot.0 live) refl in
+    omega (arith, ap (λ (r : Run). r.rank) is, s.kept.ordered.ranked c.args.slot.0 live)
+
 pub overflow_add-self : goal.overflow_add-self
 overflow_add-self c =
     let s = c.args.self.now in
     let live = lists.live-run s.terms.items s.runs.items c.args.slot.0 c.requires in
-    let is : c.index.result.now ≡ run_at s.runs.items c.args.slot.0 = get_or_read_under s.runs.items c.args.slot.0 _ c.index.result.now no_run c.index.ensures (live-below s.runs.items c.args.slot.0 live) refl in
+    let is : c.index-run.result.now ≡ run_at s.runs.items c.args.slot.0 = get_or_read_under s.runs.items c.args.slot.0 _ c.index-run.result.now no_run c.index-run.ensures (live-below s.runs.items c.args.slot.0 live) refl in
     omega (arith, ap (λ (r : Run). r.len) is, c.vacate.ensures.units, s.kept.room)
 
 pub overflow_add-self-2 : goal.overflow_add-self-2
 overflow_add-self-2 c =
     let s = c.args.self.now in
     let live = lists.live-run s.terms.items s.runs.items c.args.slot.0 c.requires in
-    let is : c.index.result.now ≡ run_at s.runs.items c.args.slot.0 = get_or_read_under s.runs.items c.args.slot.0 _ c.index.result.now no_run c.index.ensures (live-below s.runs.items c.args.slot.0 live) refl in
+    let is : c.index-run.result.now ≡ run_at s.runs.items c.args.slot.0 = get_or_read_under s.runs.items c.args.slot.0 _ c.index-run.result.now no_run c.index-run.ensures (live-below s.runs.items c.args.slot.0 live) refl in
     omega (arith, ap (λ (r : Run). r.len) is, c.vacate.ensures.units, s.kept.room)
 
 pub invariant_of-self : goal.invariant_of-self
@@ -37,7 +44,7 @@ invariant_of-self c =
     let s = c.args.self.now in
     let rs = c.vacate.new.runs.items in
     let live = lists.live-run s.terms.items s.runs.items c.args.slot.0 c.requires in
-    let is : c.index.result.now ≡ run_at s.runs.items c.args.slot.0 = get_or_read_under s.runs.items c.args.slot.0 _ c.index.result.now no_run c.index.ensures (live-below s.runs.items c.args.slot.0 live) refl in
+    let is : c.index-run.result.now ≡ run_at s.runs.items c.args.slot.0 = get_or_read_under s.runs.items c.args.slot.0 _ c.index-run.result.now no_run c.index-run.ensures (live-below s.runs.items c.args.slot.0 live) refl in
     let len = ap (λ (r : Run). r.len) is in
     let o : Ordered rs c.last_end-end.new.order.items c.last_end-end.result = subst (λ r. Ordered r c.last_end-end.new.order.items c.last_end-end.result) c.deref.ensures.value c.last_end-end.ensures.ordered in
     let last : (k : ℕ) → ends_last rs (length s.order.items) (length s.terms.items) k ≡ true → ends_last rs (length c.last_end-end.new.order.items) c.last_end-end.result k ≡ true
@@ -78,5 +85,5 @@ pub returns-clause-spare : goal.returns-clause-spare
 returns-clause-spare c =
     let s = c.args.self.now in
     let live = lists.live-run s.terms.items s.runs.items c.args.slot.0 c.requires in
-    let is : c.index.result.now ≡ run_at s.runs.items c.args.slot.0 = get_or_read_under s.runs.items c.args.slot.0 _ c.index.result.now no_run c.index.ensures (live-below s.runs.items c.args.slot.0 live) refl in
+    let is : c.index-run.result.now ≡ run_at s.runs.items c.args.slot.0 = get_or_read_under s.runs.items c.args.slot.0 _ c.index-run.result.now no_run c.index-run.ensures (live-below s.runs.items c.args.slot.0 live) refl in
     omega (arith, ap (λ (r : Run). r.len) is, lists.live-length s.terms.items s.runs.items c.args.slot.0 (s.kept.ordered.inside c.args.slot.0 live) c.requires)
