@@ -32,5 +32,6 @@ pub use check::{check_log, check_text};
 pub use checking::Checked;
 pub use fault::CheckFault;
 pub use laws::{
-    findings_are_unique, fitting_is_accepted, pieces_end_in_what_follows, rules_keep_their_conditions,
+    findings_are_unique, fitting_is_accepted, pieces_end_in_what_follows,
+    rules_keep_their_conditions,
 };
