@@ -10,7 +10,7 @@ use Rattle.tree_laws.specs.Ranges.{IsPolynomial, IsPiece, IsProblem}
 use Rattle.tree_laws.proofs.Ranged.{trees-within}
 use Rattle.proof_log.specs.Accepted.{IsAccepted, IsAcceptedProof, AreAccepted}
 use Rattle.proof_log.specs.Grammar.{IsSized, AreProofs, IsLog}
-use Rattle.proof_log.specs.Headings.{Heading, IsHeading, fuel_lines, share_of}
+use Rattle.proof_log.specs.Headings.{Heading, IsHeading, fuel_lines, share_of, share_of}
 use Rattle.proof_log.specs.Lines.{piece_lines, proof_lines, proofs_lines, log_lines}
 use Rattle.proof_log.specs.Settings.{unsettled, AreOf}
 use Rattle.proof_log.specs.Text.{FitsVerdict, IsLine, names_after, AreLines}
@@ -161,9 +161,11 @@ as-shown h log = record { heading = shown h; stated = λ e. ap (λ b. if b then 
     by false = refl
 
 -- The lines of an accepted log are lines of its version.
-pub log-own : (h : Heading) (log : List Proof) → IsLog log → AreLines [] (log_lines h log) → AreOf unsettled (log_lines h log)
-log-own h log fits lines = log-settled h log fits.proofs lines (by (has_second h.version))
+pub log-own : (h : Heading) (log : List Proof) → IsLog log → IsAccepted h log → AreLines [] (log_lines h log) → AreOf unsettled (log_lines h log)
+log-own h log fits accepted lines = log-settled h log fits.proofs lines (by (has_second h.version) refl)
   where
-    by : (b : Bool) → (b ≡ true) ⊎ AreFirst (line.Head h.version ∷ (fuel_lines b h.fuel ++ (line.Proves (length log) ∷ (proofs_lines 1 log ++ line.End ∷ []))))
-    by true = inl refl
-    by false = inr (head-first h.version (length log) (proofs_lines 1 log ++ line.End ∷ []) (proofs-first 1 log))
+    by : (b : Bool) → has_second h.version ≡ b
+        → (b ≡ true) ⊎ AreFirst (line.Head h.version ∷ (fuel_lines b h.fuel ++ (line.Proves (length log) ∷ (proofs_lines 1 log ++ line.End ∷ []))))
+    by true e = inl refl
+    by false e =
+        inr (head-first h.version (length log) (proofs_lines 1 log ++ line.End ∷ []) (proofs-first h.version e (share_of h.fuel (length log)) 1 log accepted))
