@@ -10,7 +10,7 @@ use Rattle.tree_laws.specs.Ranges.{IsPolynomial, IsPiece, IsProblem}
 use Rattle.tree_laws.proofs.Ranged.{trees-within}
 use Rattle.proof_log.specs.Accepted.{IsAccepted, IsAcceptedProof, AreAccepted}
 use Rattle.proof_log.specs.Grammar.{IsSized, AreProofs, IsLog}
-use Rattle.proof_log.specs.Headings.{Heading, IsHeading, fuel_lines, share_of, share_of}
+use Rattle.proof_log.specs.Headings.{Heading, IsHeading, fuel_lines, share_of}
 use Rattle.proof_log.specs.Lines.{piece_lines, proof_lines, proofs_lines, log_lines}
 use Rattle.proof_log.specs.Settings.{unsettled, AreOf}
 use Rattle.proof_log.specs.Text.{FitsVerdict, IsLine, names_after, AreLines}
