@@ -18,3 +18,5 @@ pub mod Effects
 pub mod OtherWords
 pub mod Ratios
 pub mod Equalities
+pub mod Closed
+pub mod Usual

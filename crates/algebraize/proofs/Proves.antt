@@ -15,6 +15,9 @@ use Rattle.proof_steps.specs.declared.problem.Problem.{Problem}
 use Rattle.algebraize.specs.Formed.{equations}
 use Rattle.gcl_reader.specs.declared.refusal.Refusal.{Refusal}
 use Rattle.gcl_reader.specs.declared.word.Statement.{Statement}
+use Rattle.gcl_reader.specs.Fitting.{IsStatement}
+use Rattle.gcl_reader.proofs.Bind.{bind-ok, ok-is}
+use Rattle.algebraize.proofs.Usual.{concluded-is}
 use Rattle.gcl_names.specs.declared.program.Act.{Act}
 use Rattle.gcl_names.specs.declared.program.Deed.{Deed}
 use Rattle.gcl_names.specs.declared.program.Deed.TheVariants as deed
@@ -24,7 +27,7 @@ use Rattle.algebraize.specs.declared.points.NewPoints.{NewPoints}
 use Rattle.algebraize.specs.declared.points.NewPoints.TheVariants as new
 use Rattle.algebraize.specs.Layout.{Layout, layout_of, layout_from, new_points, with_points, free_point, semi_free_point, dependent_point, empty, with_u, with_x, with_place, next}
 use Rattle.algebraize.specs.Equations.{Equations, equations_of}
-use Rattle.algebraize.specs.Problem.{is_prove, acts_before, laid_out, too_many_variables, problem_at, problem_of_deed, problem_between, problem_of, problems_from, proves_in}
+use Rattle.algebraize.specs.Problem.{is_prove, acts_before, laid_out, too_many_variables, concluded_at, equations_with, problem_at, problem_of_deed, problem_between, problem_of, problems_from, proves_in}
 
 -- Layouts grow.
 grows-free : (l : Layout) → length l.variables ≤ length (free_point l).variables
@@ -185,15 +188,13 @@ variables_of_layout acts le =
     both_true (le_test _ _ le) (both_true h.u_order h.x_order)
 
 -- What equations are given.
-pub problem_at-ok : (before : List Act) (prove : Act) (s : Statement) (ps : List ℕ) (e : Equations) → problem_at before prove s ps ≡ Ok e
+pub problem_at-ok : (before : List Act) (prove : Act) (s : Statement) (ps : List ℕ) (e : Equations) → IsStatement s → problem_at before prove s ps ≡ Ok e
     → (e ≡ equations_of before s ps) × (length (layout_of before).variables ≤ MOST_VARIABLES)
 unfolding problem_at
-problem_at-ok before prove s ps e h = after_laid (laid_out before prove) refl h
-  where
-    after_laid : (r : Result Layout Refusal) → laid_out before prove ≡ r → (r >>= λ l. Ok (equations_of before s ps)) ≡ Ok e
-        → (e ≡ equations_of before s ps) × (length (layout_of before).variables ≤ MOST_VARIABLES)
-    after_laid (Ok l) is h = (cc, (laid_out-ok before prove l is).1)
-    after_laid (Err x) is h = cc
+problem_at-ok before prove s ps e is h =
+    let l = bind-ok (laid_out before prove) _ e h in
+    let cons = bind-ok (concluded_at before prove s ps) _ e l.2 in
+    (sym (ok-is cons.2) ∙ ap (equations_with before) (concluded-is before prove s ps cons.0 is cons.1), (laid_out-ok before prove l.0 l.1).1)
 
 -- The prove of a number.
 after-prove : (n : Counts) (d : Deed) → (after n d).proves ≡ n.proves + (if is_prove d then 1 else 0)

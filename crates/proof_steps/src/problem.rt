@@ -8,7 +8,7 @@ use poly_model::{OwnedPoly, Row, Vars};
 pub const MOST_STATED_TERMS: usize = 12;
 
 /// The most terms of a conclusion that a figure states.
-pub const MOST_CONCLUSION_TERMS: usize = 12;
+pub const MOST_CONCLUSION_TERMS: usize = 2048;
 
 /// A problem: over its variables, are the conclusions zero wherever all hypotheses are?
 #[derive(Debug, Drop)]

@@ -11,8 +11,8 @@ use Rattle.algebraize.proofs.laws.problems_mean_their_figures.Goals as goal
 
 module _ {M : Type 0} {o : Operations M} (L : IsDomain o) where
   of_deed : (before : List Act) (a : Act) (d : Deed) (e : Equations) → problem_of_deed before a d ≡ Ok e → MeanDeed o before d e
-  of_deed before a (deed.Prove s points) e is =
-      let h = problem_at-ok before a s points e is in
+  of_deed before a (deed.Prove s points) e is = λ stated.
+      let h = problem_at-ok before a s points e stated is in
       subst (Mean o before s points) (sym h.0) (equations_mean L before s points h.1)
   of_deed before a d e is = tt
 
