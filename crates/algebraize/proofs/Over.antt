@@ -13,7 +13,7 @@ use Rattle.algebraize.specs.declared.layout.Coordinate.TheVariants as coordinate
 use Rattle.algebraize.specs.Curves.{no_curves}
 use Rattle.algebraize.specs.Figure.{conclusion}
 use Rattle.algebraize.specs.Layout.{IsBelow, AreBelow, layout_of}
-use Rattle.algebraize.specs.Equations.{polynomials, coordinate_polynomial, places_of, general_figure, expressions_of, hypotheses_of, conclusions_of}
+use Rattle.algebraize.specs.Equations.{polynomials, coordinate_polynomial, places_of, general_figure, expressions_of, hypotheses_of, stated_conclusions}
 use Rattle.algebraize.proofs.Every.{every-sum, every-negative, every-divided, is_over-product, none_from, none_from-none, none_from-one}
 use Rattle.algebraize.proofs.Places.{coordinates_own}
 use Rattle.algebraize.proofs.Related as related
@@ -24,10 +24,10 @@ abbrev pub one_member : Operations (Unit {0})
 one_member = record { zero = tt; one = tt; add = λ a b. tt; mul = λ a b. tt; neg = λ a. tt }
 
 -- Only the first n variables occur.
-abbrev IsOver : ℕ → Polynomial → Unit {0} → Type 0
+abbrev pub IsOver : ℕ → Polynomial → Unit {0} → Type 0
 IsOver n p u = is_over n p ≡ true
 
-kept : (n : ℕ) → IsKept polynomials one_member (IsOver n)
+pub kept : (n : ℕ) → IsKept polynomials one_member (IsOver n)
 kept n = record {
   zero = refl;
   one = both_true (none_from-none n MOST_VARIABLES) refl;
@@ -40,7 +40,7 @@ over-coordinate : (n : ℕ) (c : Coordinate) → IsBelow n c → is_over n (coor
 over-coordinate n coordinate.Zero b = refl
 over-coordinate n (coordinate.Variable i) b = both_true (none_from-one n i MOST_VARIABLES b) refl
 
-over-places : (n : ℕ) (cs : List (Coordinate × Coordinate)) → AreBelow n cs → related.FigureKept (kept n) (places_of cs) (map (λ c. (tt, tt)) cs)
+pub over-places : (n : ℕ) (cs : List (Coordinate × Coordinate)) → AreBelow n cs → related.FigureKept (kept n) (places_of cs) (map (λ c. (tt, tt)) cs)
 over-places n [] b = tt
 over-places n (c ∷ cs) b = ((over-coordinate n c.0 b.0, over-coordinate n c.1 b.1), over-places n cs b.2)
 
@@ -56,8 +56,8 @@ over_hypotheses acts =
     over-primitive_parts n (expressions_of acts) _
     (related.kept-acts (kept n) _ _ no_curves no_curves acts (over-places n (layout_of acts).places (coordinates_own acts)) (related.none-kept (kept n)))
 
-pub over_conclusions : (acts : List Act) (s : Statement) (ps : List ℕ) → list_all (is_over (length (layout_of acts).variables)) (conclusions_of acts s ps) ≡ true
-over_conclusions acts s ps =
+pub over_stated : (acts : List Act) (s : Statement) (ps : List ℕ) → list_all (is_over (length (layout_of acts).variables)) (stated_conclusions acts s ps) ≡ true
+over_stated acts s ps =
     let n = length (layout_of acts).variables in
     over-primitive_parts n (conclusion polynomials (general_figure (layout_of acts)) s ps) _
     (related.kept-conclusion (kept n) _ _ s ps (over-places n (layout_of acts).places (coordinates_own acts)))

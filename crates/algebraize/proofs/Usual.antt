@@ -21,7 +21,7 @@ use Rattle.algebraize.specs.declared.layout.Coordinate.TheVariants as coordinate
 use Rattle.algebraize.specs.Vectors.{Vector}
 use Rattle.algebraize.specs.Figure.{Figure, place_of}
 use Rattle.algebraize.specs.Layout.{layout_of}
-use Rattle.algebraize.specs.Equations.{polynomials, coordinate_polynomial, places_of, general_figure, general_terms, equality_of, stated_conclusions, conclusions_of}
+use Rattle.algebraize.specs.Equations.{polynomials, coordinate_polynomial, places_of, general_figure, general_terms, equality_of, conclusions_of}
 use Rattle.algebraize.specs.Problem.{bounded_equality_of, or_refused, concluded_at}
 use Rattle.algebraize.proofs.Small as small
 

@@ -45,6 +45,6 @@ equations p = record { variables = p.vars; hypotheses = p.hyps; conclusions = p.
 abbrev pub is_own : Problem → Bool
 is_own p = list_all (is_over (length p.vars)) p.hyps && list_all (is_over (length p.vars)) p.cons
 
--- Its polynomials are of degree at most 2.
+-- Its hypotheses are of degree at most 2.
 abbrev pub is_quadratic : Problem → Bool
-is_quadratic p = list_all (is_of_degree 2) p.hyps && list_all (is_of_degree 2) p.cons
+is_quadratic p = list_all (is_of_degree 2) p.hyps

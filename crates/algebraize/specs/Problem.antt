@@ -1,5 +1,5 @@
 -- The problem of the prove of a number, and the problems of all proves.
-use Rattle.std.specs.Prelude.{ℕ, zero, suc, ◌+◌, ◌-◌, ◌==◌, List, [], ◌∷◌, length, take, drop, Bool, true, false, if◌then◌else◌, Result, Ok, Err, nat_le}
+use Rattle.std.specs.Prelude.{ℕ, zero, suc, ◌+◌, ◌-◌, ◌==◌, List, [], ◌∷◌, length, map, take, drop, Bool, true, false, if◌then◌else◌, Result, Ok, Err, nat_le}
 use Rattle.poly_model.specs.Domain.{Operations}
 use Rattle.poly_model.specs.declared.limits.TheConstants.{MOST_VARIABLES}
 use Rattle.gcl_reader.specs.Grammar.{◌>>=◌}
@@ -17,7 +17,9 @@ use Rattle.gcl_names.specs.declared.program.Deed.{Deed}
 use Rattle.gcl_names.specs.declared.program.Deed.TheVariants as deed
 use Rattle.algebraize.specs.Layout.{Layout, layout_of}
 use Rattle.algebraize.specs.Vectors.{Vector}
-use Rattle.algebraize.specs.Equations.{Equations, Mean, polynomials, hypotheses_of, stated_conclusions, general_terms}
+use Rattle.algebraize.specs.Figure.{Figure, conclusion, terms_at}
+use Rattle.poly_model.specs.Content.{primitive_part}
+use Rattle.algebraize.specs.Equations.{Equations, Mean, polynomials, general_figure, hypotheses_of}
 
 -- A prove is refused for its variables, at its word.
 abbrev pub too_many_variables : Act → Refusal
@@ -41,10 +43,13 @@ abbrev pub or_refused : Act → Result Polynomial Limit → Result (List Polynom
 or_refused prove (Ok p) = Ok (p ∷ [])
 or_refused prove (Err l) = Err (conclusion_limit prove)
 
--- The conclusions of a prove behind these acts.
+-- The conclusions of a prove over a figure, and of one behind these acts.
+abbrev pub concluded_over : Figure Polynomial → Act → Statement → List ℕ → Result (List Polynomial) Refusal
+concluded_over f prove (statement.Equal parts) points = or_refused prove (bounded_equality_of (terms_at polynomials f parts points))
+concluded_over f prove s points = Ok (map primitive_part (conclusion polynomials f s points))
+
 abbrev pub concluded_at : List Act → Act → Statement → List ℕ → Result (List Polynomial) Refusal
-concluded_at before prove (statement.Equal parts) points = or_refused prove (bounded_equality_of (general_terms before parts points))
-concluded_at before prove s points = Ok (stated_conclusions before s points)
+concluded_at before prove s points = concluded_over (general_figure (layout_of before)) prove s points
 
 -- The equations of a prove behind these acts, with these conclusions.
 abbrev pub equations_with : List Act → List Polynomial → Equations

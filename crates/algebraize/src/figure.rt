@@ -245,6 +245,26 @@ impl Figure {
         Ok(())
     }
 
+    /// The coordinates of points, each place with polynomials of its own.
+    pub fn spots(
+        &self,
+        alloc: Global,
+        points: &[u32],
+    ) -> Result<Vec<(OwnedPoly, OwnedPoly)>, AllocError>
+        requires { HasDefaults self.now }
+        ensures { IfOk result (λ spots. spots.items
+            ≡ map (place_of polynomials self.now.places.items) points.now) }
+    {
+        let mut spots = Vec::new(alloc);
+        let mut rest = points;
+        while let Some((point, tail)) = rest.split_first() {
+            let spot = self.place(*point).spot(alloc)?;
+            spots.push(spot)?;
+            rest = tail;
+        }
+        Ok(spots)
+    }
+
     /// The primitive parts of what a statement says is zero.
     pub fn conclusions(
         &self,

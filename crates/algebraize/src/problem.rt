@@ -1,5 +1,5 @@
 // The problem of a prove.
-ghost use Rattle.std.specs.Prelude.{All, IsTrue, ◌≡◌, ◌<◌, IfOk, OnOk, map};
+ghost use Rattle.std.specs.Prelude.{All, IsTrue, ◌≡◌, ◌<◌, IfOk, OnOk, map, length};
 ghost use Rattle.std.specs.List.{list_all};
 ghost use Rattle.gcl_names.specs.Sound.{IsSound};
 ghost use Rattle.gcl_reader.specs.Grammar.{Gives};
@@ -8,14 +8,19 @@ ghost use Rattle.proof_steps.specs.Stated.{IsStated, IsWithinLimits};
 ghost use Rattle.algebraize.specs.Equations.{polynomials};
 ghost use Rattle.algebraize.specs.Figure.{conditions_from};
 ghost use Rattle.algebraize.specs.Formed.{HasDefaults, curves_of, equations, is_own, is_quadratic};
-ghost use Rattle.algebraize.specs.Problem.{acts_before, is_prove, problem_at, problem_of, problems_of};
+ghost use Rattle.algebraize.specs.Problem.{acts_before, bounded_equality_of, concluded_over, is_prove, or_refused, problem_at, problem_of, problems_of};
+ghost use Rattle.algebraize.specs.Figure.{terms_at};
+ghost use Rattle.gcl_reader.specs.Fitting.{IsStatement};
+ghost use Rattle.gcl_reader.specs.Table.{points_of};
+ghost use Rattle.ratio_terms.specs.Terms.{are_terms, names_in};
 
 use crate::figure::Figure;
 use crate::layout::lay_out;
 use gcl_names::{Act, Deed, Program};
-use gcl_reader::{GclFault, Statement};
+use gcl_reader::{GclFault, Kind, Part, Statement};
 use poly_model::{OwnedPoly, Row};
 use proof_steps::Problem;
+use ratio_eq::{RatioFault, conclude};
 use std::alloc::{AllocError, Global};
 
 /// What the acts make zero, over the places of the figure.
@@ -46,6 +51,57 @@ fn is_prove(deed: &Deed) -> bool
     matches!(deed, Deed::Prove(..))
 }
 
+/// The conclusion of an equality over the places of its points; or the refusal of its prove, where forming it meets a limit.
+fn equality(
+    alloc: Global,
+    figure: &Figure,
+    prove: &Act,
+    parts: &[Part],
+    points: &[u32],
+) -> Result<Row<OwnedPoly>, GclFault>
+    requires defaults { HasDefaults figure.now }
+    requires terms { IsTrue (are_terms 2 parts.now) }
+    requires points { length points.now ≡ names_in parts.now }
+    ensures { Gives (λ row. row) result (or_refused prove.now (bounded_equality_of
+        (terms_at polynomials figure.now.places.items parts.now points.now))) }
+{
+    let spots = figure.spots(alloc, points)?;
+    match conclude(alloc, parts, &spots) {
+        Ok(conclusion) => {
+            let mut conclusions = Vec::new(alloc);
+            conclusions.push(conclusion)?;
+            Ok(Row::from_vec(conclusions))
+        }
+        Err(RatioFault::Limit(_)) => Err(GclFault::Refused(
+            prove.span().refusal(Kind::ConclusionLimit),
+        )),
+        Err(RatioFault::OutOfMemory) => Err(GclFault::OutOfMemory),
+    }
+}
+
+/// The conclusions of a prove over a figure.
+fn conclusions(
+    alloc: Global,
+    figure: &Figure,
+    prove: &Act,
+    statement: &Statement,
+    points: &[u32],
+) -> Result<Row<OwnedPoly>, GclFault>
+    requires defaults { HasDefaults figure.now }
+    requires statement { IsStatement statement.now }
+    requires points { length points.now ≡ length (points_of statement.now) }
+    ensures { Gives (λ row. row) result (concluded_over figure.now.places.items prove.now
+        statement.now points.now) }
+{
+    match statement {
+        Statement::Equal(parts) => equality(alloc, figure, prove, parts.as_slice(), points),
+        _ => {
+            let conclusions = figure.conclusions(alloc, statement, points)?;
+            Ok(Row::from_vec(conclusions))
+        }
+    }
+}
+
 /// The problem of a prove behind these acts.
 #[tactic(auto, unfolding(crate::specs::Problem::problem_at))]
 fn problem_at(
@@ -55,16 +111,20 @@ fn problem_at(
     statement: &Statement,
     points: &[u32],
 ) -> Result<Problem, GclFault>
+    requires statement { IsStatement statement.now }
+    requires points { length points.now ≡ length (points_of statement.now) }
     ensures value { Gives equations result (problem_at before.now prove.now statement.now
         points.now) }
     ensures within { IfOk result IsWithinLimits }
 {
     let layout = lay_out(alloc, before, prove)?;
     let mut figure = Figure::general(alloc, &layout)?;
+    let hyps = hypotheses(alloc, &mut figure, before)?;
+    let cons = conclusions(alloc, &figure, prove, statement, points)?;
     let problem = Problem {
         vars: layout.vars(),
-        hyps: hypotheses(alloc, &mut figure, before)?,
-        cons: Row::from_vec(figure.conclusions(alloc, statement, points)?),
+        hyps,
+        cons,
     };
     problem.is_within_limits();
     Ok(problem)
@@ -93,8 +153,8 @@ pub fn acts_before(acts: &[Act], prove: u32) -> usize
 
 /// The problem of a prove of a sound program, counted from 0.
 ///
-/// It is refused where the points before the prove want more than `MOST_VARIABLES` variables. What it means over a domain
-/// is said by `problems_mean_their_figures`.
+/// It is refused where the points before the prove want more than `MOST_VARIABLES` variables, or else where forming the
+/// conclusion of an equality meets a limit of polynomials. What it means over a domain is said by `problems_mean_their_figures`.
 pub fn system_of(alloc: Global, program: &Program, prove: u32) -> Result<Problem, GclFault>
     requires sound { IsSound program.now }
     requires prove { prove < program.now.proves }

@@ -92,6 +92,17 @@ fn coordinate_terms(alloc: Global, coordinate: Coordinate) -> Result<Vec<Term>, 
     }
 }
 
+/// A polynomial of its own.
+fn owned(alloc: Global, terms: &[Term]) -> Result<OwnedPoly, AllocError>
+    requires { IsSmall 1 1 (polynomial_of terms.now) }
+    ensures { IfOk result (λ p. p ≡ polynomial_of terms.now) }
+{
+    match OwnedPoly::from_terms(Vec::from_slice(alloc, terms)?) {
+        Ok(polynomial) => Ok(polynomial),
+        Err(_) => unreachable!(),
+    }
+}
+
 /// b - a.
 fn part_difference(alloc: Global, b: &[Term], a: &[Term]) -> Result<Vec<Term>, AllocError>
     requires b { IsSmall 1 1 (polynomial_of b.now) }
@@ -167,6 +178,15 @@ fn translation_part(
 }
 
 impl Place {
+    /// Its coordinates, each a polynomial of its own.
+    pub fn spot(&self, alloc: Global) -> Result<(OwnedPoly, OwnedPoly), AllocError>
+        ensures { IfOk result (λ spot. spot ≡ self.now) }
+    {
+        let x = owned(alloc, &self.x)?;
+        let y = owned(alloc, &self.y)?;
+        Ok((x, y))
+    }
+
     /// The place with these coordinates.
     pub fn new(alloc: Global, x: Coordinate, y: Coordinate) -> Result<Place, AllocError>
         requires x { IsBelow MOST_VARIABLES x }
