@@ -1,6 +1,8 @@
 -- A checker that is fed piece by piece.
 use Rattle.std.proofs.Common.{◌≡◌, ◌≤◌, ◌<◌, ◌+◌, ◌-◌, ◌^◌, ℕ, List, [], ◌∷◌, ◌++◌, length, take, drop, Bool, true, false, Some, None, Option, Result, Ok, Err, refl, sym, ◌∙◌, ap, subst, arith, append_assoc, append-nil, length-append, inl, inr}
+use Rattle.std.specs.Prelude.{is_some}
 use Rattle.std.proofs.lemmas.Grind.{common_steps}
+use Rattle.poly_model.specs.declared.limits.TheConstants.{MOST_LOG_BYTES}
 use Rattle.proof_log.specs.Feeding.{Fed, FedWith, IsFed}
 use Rattle.proof_log.specs.declared.line.LogLine.{LogLine}
 use Rattle.proof_log.specs.declared.reader.LogReader.{LogReader}
@@ -47,10 +49,28 @@ pub stands : (f : CheckFault) (bytes piece : List ℕ) → ((more : List ℕ) �
     → (more : List ℕ) → Judged (Err f) ((bytes ++ piece) ++ more)
 stands f bytes piece h more = subst (Judged (Err f)) (sym (append_assoc bytes piece more)) (h more)
 
+-- what a piece leaves, where no fault was found before
+module _ (c : Checker) (bytes piece : List ℕ) (begins : c.stop ≡ None) (checked : IsChecked c bytes) where
+  abbrev pub Step : LogReader → Progress → Result ℕ CheckFault → Type 0
+  Step r p result = (all : List ℕ) (front : List LogLine) → length all ≡ c.reader.fed → IsFed front c.reader all → IsBehind front c.progress c.seen
+      → PieceDone result front r p all piece
+
+  reads : Reads c bytes
+  reads = subst (λ o. CheckedTo o c bytes) begins checked
+
+  pub piece_read : (d : Checker) (seen : ℕ) → d.stop ≡ None → Step d.reader d.progress (Ok seen) → d.seen ≡ seen → d.reader.fed ≡ c.reader.fed + length piece
+      → IsChecked d (bytes ++ piece)
+  piece_read d seen goes step same fed =
+      subst (λ o. CheckedTo o d (bytes ++ piece)) (sym goes)
+      (read_on c d bytes piece seen reads (step bytes reads.front (sym reads.count) (as_fed reads.front c.reader bytes reads.fed) reads.behind) same fed)
+
+  pub piece_stops : (r : LogReader) (p : Progress) (f : CheckFault) → Step r p (Err f) → (more : List ℕ) → Judged (Err f) ((bytes ++ piece) ++ more)
+  piece_stops r p f step = stands f bytes piece (step bytes reads.front (sym reads.count) (as_fed reads.front c.reader bytes reads.fed) reads.behind)
+
 -- ---- what is held
-pub is_open : (c : Checker) (bytes : List ℕ) (held fuel : ℕ) → Reads c bytes → (state_of c.progress.checker).fuel < 2 ^ 32
+pub is_open : (c : Checker) (bytes : List ℕ) (held : ℕ) → Reads c bytes → (state_of c.progress.checker).fuel < 2 ^ 32
     → ((k : ℕ) → IsUpTo c.progress.leaf k → IsUpTo held (held_of (state_of c.progress.checker) k)) → IsOpen held bytes
-is_open c bytes held fuel h low size =
+is_open c bytes held h low size =
     let leaf = leaf_behind begin 0 h.front in
     let s = state_of c.progress.checker in
     let most : IsUpTo held (held_of s leaf) = size leaf h.behind.leaf in
@@ -74,6 +94,17 @@ is_decided (fault.Malformed n) bytes e h = (Malformed n, h)
 is_decided (fault.Rejected n word) bytes e h = (Rejected n word, h)
 is_decided fault.OutOfMemory bytes e h = absurd (let z : true ≡ false = e in cc)
 
+pub nothing_held : (c : Checker) (bytes : List ℕ) → is_some c.stop ≡ true → IsChecked c bytes → is_memory c.stop ≡ false → IsHeld 0 bytes
+nothing_held c bytes e h m = by c.stop e h m
+  where
+    by : (o : Option CheckFault) → is_some o ≡ true → CheckedTo o c bytes → is_memory o ≡ false → IsHeld 0 bytes
+    by None e h m = absurd (let z : false ≡ true = e in cc)
+    by (Some f) e h m = inr (refl, is_decided f bytes m h)
+
+pub is_going : (o : Option CheckFault) → is_some o ≡ false → o ≡ None
+is_going None e = refl
+is_going (Some f) e = absurd (let z : true ≡ false = e in cc)
+
 -- ---- the end
 pub judged_fault : (f : CheckFault) (bytes : List ℕ) → ((more : List ℕ) → Judged (Err f) (bytes ++ more)) → Judged (Err f) bytes
 judged_fault f bytes h = subst (Judged (Err f)) (append-nil bytes) (h [])
@@ -88,6 +119,19 @@ pub record Passed (bytes rest : List ℕ) (c : Checker) : Type 0 where
   pub parts : bytes ≡ done ++ rest
   pub checked : IsChecked c done
   pub count : c.fed ≡ length done
+
+pub none_passed : (bytes : List ℕ) (c : Checker) → IsChecked c [] → c.fed ≡ 0 → Passed bytes bytes c
+none_passed bytes c h none = record { done = []; parts = refl; checked = h; count = none }
+
+-- there is room for one piece more
+pub room_left : (bytes rest piece after : List ℕ) (c : Checker) (p : Passed bytes rest c) → rest ≡ piece ++ after → length bytes ≤ MOST_LOG_BYTES
+    → c.fed + length piece ≤ 2 ^ 30
+room_left bytes rest piece after c p e fits =
+    let all = ap length p.parts in
+    let cut = ap length e in
+    let a = length-append p.done rest in
+    let b = length-append piece after in
+    let k = p.count in omega (arith, all, cut, a, b, k, fits)
 
 pub passed_more : (bytes rest piece after : List ℕ) (c d : Checker) (p : Passed bytes rest c) → rest ≡ piece ++ after → IsChecked d (p.done ++ piece)
     → d.fed ≡ c.fed + length piece → Passed bytes after d

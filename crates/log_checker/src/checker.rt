@@ -345,6 +345,7 @@ impl LineChecker {
         ensures size { (k : ℕ) → IsUpTo leaf k → IsUpTo result (held_of (state_of self.now) k) }
         ensures fuel { (state_of self.now).fuel < 2 ^ 32 }
     {
+        let _fuel = self.fuel;
         match &self.part {
             Part::Within(_, inside) => open_size(inside, leaf).saturating_add(sizes(&self.waiting)),
             Part::Opening | Part::Between => 0,
