@@ -1,5 +1,5 @@
 -- Where forming the conclusion of an equality meets no limit, it is the one without limits.
-use Rattle.std.proofs.Common.{◌≡◌, ◌≤◌, ℕ, zero, suc, List, [], ◌∷◌, map, Result, Ok, Err, refl, ap, sym, ◌∙◌, arith, IsTrue}
+use Rattle.std.proofs.Common.{◌≡◌, ◌≤◌, ℕ, zero, suc, List, [], ◌∷◌, length, true, map, Result, Ok, Err, refl, ap, sym, ◌∙◌, arith, IsTrue}
 use Rattle.std.specs.List.{AllByRecursion}
 use Rattle.poly_model.specs.Polynomial.{Polynomial}
 use Rattle.poly_model.specs.Standard.{is_standard}
@@ -10,10 +10,14 @@ use Rattle.gcl_reader.specs.declared.limits.TheConstants.{MOST_WHOLE}
 use Rattle.gcl_reader.specs.declared.word.Statement.{Statement}
 use Rattle.gcl_reader.specs.declared.word.Statement.TheVariants as statement
 use Rattle.gcl_reader.specs.declared.refusal.Refusal.{Refusal}
+use Rattle.gcl_reader.specs.Table as table
+use Rattle.gcl_reader.proofs.Showable.{names-are}
 use Rattle.gcl_names.specs.declared.program.Act.{Act}
 use Rattle.ratio_terms.specs.declared.part.Part.{Part}
 use Rattle.ratio_terms.specs.declared.part.Part.TheVariants as part
-use Rattle.ratio_terms.specs.Terms.{Term, Sum, Product, joined, terms_of}
+use Rattle.ratio_terms.specs.Terms.{Term, Sum, Product, are_terms, joined, names_in, terms_of}
+use Rattle.ratio_terms.proofs.Taking as taking
+use Rattle.ratio_eq.specs.Bounded.{bounded_conclusion_of, concluded}
 use Rattle.ratio_eq.specs.Laws.{IsStandardPlace, IsStandardTerm}
 use Rattle.ratio_eq.proofs.Limits.{bounded_usual}
 use Rattle.algebraize.specs.declared.layout.Coordinate.{Coordinate}
@@ -94,3 +98,29 @@ concluded-is before a (statement.Equal parts) points cons is h =
     one-concluded a ts (bounded_equality_of ts) cons
     (terms-standard parts _ is.1 (listed-standard (general_figure (layout_of before)) points (places-standard (layout_of before).places))) refl h
 concluded-is before a s points cons is h = cc
+
+-- Of two terms, the conclusion of the parts is that of the terms.
+two-same : (ts : List (Term (Vector Polynomial))) → length ts ≡ 2 → bounded_conclusion_of ts ≡ bounded_equality_of ts
+two-same [] e = absurd (omega (arith, e))
+two-same (s ∷ []) e = absurd (omega (arith, e))
+two-same (s ∷ t ∷ []) e = refl
+two-same (s ∷ t ∷ u ∷ ts) e = absurd (omega (arith, e))
+
+pub parts_concluded : (parts : List Part) (places : List (Vector Polynomial)) → are_terms 2 parts ≡ true → length places ≡ names_in parts →
+    concluded parts places ≡ bounded_equality_of (terms_of parts places)
+parts_concluded parts places h e = two-same (terms_of parts places) (taking.count 2 parts places h (omega (arith, e)))
+
+-- An equality wants as many points as its parts have names.
+pub names_wanted : (parts : List Part) → length (table.points_of (statement.Equal parts)) ≡ names_in parts
+names_wanted parts = names-are parts
+
+as-many : (f : Figure Polynomial) (points : List ℕ) → length (map (place_of polynomials f) points) ≡ length points
+as-many f [] = refl
+as-many f (i ∷ points) = ap suc (as-many f points)
+
+-- What forming the conclusion over these places answers is what the prove is answered.
+pub answered_as : (a : Act) (f : Figure Polynomial) (parts : List Part) (points : List ℕ) (places : List (Vector Polynomial)) (r : Result Polynomial Limit) →
+    places ≡ map (place_of polynomials f) points → are_terms 2 parts ≡ true → length points ≡ names_in parts → concluded parts places ≡ r →
+    or_refused a (bounded_equality_of (terms_of parts (map (place_of polynomials f) points))) ≡ or_refused a r
+answered_as a f parts points places r is terms many formed =
+    ap (or_refused a) (sym (parts_concluded parts _ terms (as-many f points ∙ many)) ∙ ap (concluded parts) (sym is) ∙ formed)

@@ -52,6 +52,7 @@ fn is_prove(deed: &Deed) -> bool
 }
 
 /// The conclusion of an equality over the places of its points; or the refusal of its prove, where forming it meets a limit.
+#[tactic(auto, using(crate::proofs::Usual::parts_concluded))]
 fn equality(
     alloc: Global,
     figure: &Figure,
@@ -80,6 +81,7 @@ fn equality(
 }
 
 /// The conclusions of a prove over a figure.
+#[tactic(auto, using(crate::proofs::Usual::names_wanted))]
 fn conclusions(
     alloc: Global,
     figure: &Figure,
