@@ -25,8 +25,8 @@ loop-rest-preserved c =
       passed = passed_more c.args.bytes.now l.rest.now cut.result.0.now cut.result.1.now l.checker c.feed.new.self p whole (next.checked p.done p.checked) next.fed;
     }
 
-pub returns-in_default : goal.returns-in_default
-returns-in_default c =
+pub returns : goal.returns
+returns c =
     let l = c.loop-rest in
     let p = l.invariant.passed in
     let none : length l.rest.now ≡ 0 = eqb-true (length l.rest.now) 0 (sym c.is_empty.ensures ∙ c.loop-rest-test.false) in
