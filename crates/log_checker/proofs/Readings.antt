@@ -1,13 +1,14 @@
 -- Bytes that a reading may have given, where it is not known which.
-use Rattle.std.proofs.Common.{◌≡◌, ◌<◌, ◌≤◌, ◌+◌, ◌++◌, ◌⊎◌, ℕ, List, [], length, take, drop, Option, None, Some, Result, Ok, Err, IfOk, IsErrOf, refl, sym, ◌∙◌, ap, subst, arith}
+use Rattle.std.proofs.Common.{◌≡◌, ◌<◌, ◌≤◌, ◌+◌, ◌++◌, ◌⊎◌, ℕ, List, [], ◌∷◌, length, take, drop, Option, None, Some, Result, Ok, Err, IfOk, IsErrOf, refl, sym, ◌∙◌, ap, subst, arith}
 use Rattle.std.specs.Prelude.{replicate, min}
-use Rattle.std.proofs.lemmas.List.{length-replicate, length-take, length-drop, length-append, length-map}
+use Rattle.std.proofs.lemmas.List.{length-replicate, length-take, length-drop, length-append}
 use Rattle.poly_model.specs.declared.limits.TheConstants.{MOST_LOG_BYTES}
 use Rattle.poly_model.specs.Domain.{Operations}
 use Rattle.assurance.specs.Assured.{TreesCover, VerdictsHold, TreesKeepVariables}
 use Rattle.desk_io.specs.Files.{Files, Holds, ReadsFile, known_at}
 use Rattle.desk_io.proofs.Reading.{front_whole, front_more}
-use Rattle.log_checker.specs.Checked.{AreOf, Judged, FileJudged, ReadJudged, AreAssured, IsCovered, WasRead, ReadOnce}
+use Rattle.proof_log.specs.declared.log.Proof.{Proof}
+use Rattle.log_checker.specs.Checked.{problems_of, verdicts_of, AreOf, Judged, FileJudged, ReadJudged, AreAssured, IsCovered, WasRead, ReadOnce}
 use Rattle.log_checker.specs.Streams.{IsChecked}
 use Rattle.log_checker.specs.declared.checking.Checked.{Checked}
 use Rattle.log_checker.specs.declared.fault.CheckFault.{CheckFault}
@@ -101,11 +102,16 @@ file_judged (Err fault.ReadFault) bytes j = tt
 file_judged (Err fault.TooLarge) bytes j = j
 file_judged (Err fault.OutOfMemory) bytes j = tt
 
+as_many : (log : List Proof) → length (verdicts_of log) ≡ length (problems_of log)
+as_many [] = refl
+as_many (p ∷ ps) = let h = as_many ps in omega (arith, h)
+
 pub many_told : (result : Result Checked CheckFault) (bytes : List ℕ) → ReadJudged result bytes → IfOk result
     (λ checked. length checked.verdicts ≡ length checked.problems)
 many_told (Ok checked) bytes j =
+    let log = j.1.0 in
     let tells = j.1.2 in
-    ap length tells.verdicts ∙ length-map _ j.1.0 ∙ sym (length-map _ j.1.0) ∙ sym (ap length tells.problems)
+    ap length tells.verdicts ∙ as_many log ∙ sym (ap length tells.problems)
 many_told (Err f) bytes j = tt
 
 module _ {M : Type 0} (o : Operations M) where
