@@ -24,7 +24,7 @@ pub loop-count-preserved : goal.loop-count-preserved
 loop-count-preserved g c =
     let l = c.loop-count in
     let read = c.in-Ok-read in
-    let bound = read.ensures.bound in
+    let bound = read.ensures.bound.0 in
     let taken = length-take read.count c.read.new.piece in
     let begins = l.invariant.fed in
     let fed = c.feed.ensures.fed in
@@ -77,6 +77,6 @@ returns-then-count-from-clause-read g c =
     let large : MOST_LOG_BYTES < l.from + read.count = omega arith in
     let some : 0 < read.count = omega arith in
     let many = many_bytes (g.K.Desk.held c.args.desk.now) c.args.name.now MOST_LOG_BYTES
-    (λ file holds. longer file c.read.new.piece l.from read.count MOST_LOG_BYTES read.ensures.bound large some
+    (λ file holds. longer file c.read.new.piece l.from read.count MOST_LOG_BYTES read.ensures.bound.0 large some
         (read.ensures.bytes file (ap (λ h. known_at h c.args.name.now) l.invariant.same ∙ holds))) in
     record { bytes = many.bytes; own = many.own; judged = many.many }
