@@ -1,6 +1,5 @@
 -- Lines that are checked one behind the other, and the pieces of a log.
-use Rattle.std.proofs.Common.{◌≡◌, ℕ, ◌+◌, ◌^◌, ◌<◌, ◌≤◌, List, [], ◌∷◌, ◌++◌, length, take, drop, true, refl, sym, ◌∙◌, ap, arith, Some, None, Result, Ok, Err, append_assoc, append-nil, subst, length-append, inl, ◌⊎◌}
-use Rattle.std.proofs.lemmas.Grind.{common_steps}
+use Rattle.std.proofs.Common.{◌≡◌, ℕ, ◌+◌, ◌^◌, ◌<◌, ◌≤◌, List, [], ◌∷◌, ◌++◌, length, true, refl, sym, ◌∙◌, ap, arith, Some, None, Result, Ok, Err, append_assoc, append-nil, subst, length-append, inl, ◌⊎◌}
 use Rattle.poly_model.specs.declared.vars.VarName.{VarName}
 use Rattle.proof_log.specs.Feeding.{Fed, FedWith, IsFed, FedTo, Stopped}
 use Rattle.proof_log.specs.Grammar.{Begins, Refuses, EndsEarly, names_behind}
@@ -15,14 +14,12 @@ use Rattle.proof_log.specs.declared.reader.LogFault.TheVariants as log
 use Rattle.proof_log.proofs.Held.{begins_more, refuses_more}
 use Rattle.proof_log.proofs.Logs.{front_is}
 use Rattle.log_checker.specs.Answers.{IsMalformed, IsRejected}
-use Rattle.log_checker.specs.Checked.{Judged}
 use Rattle.log_checker.specs.Checkers.{state_of}
 use Rattle.log_checker.specs.Fitting.{State, begin, after, fitted}
 use Rattle.log_checker.specs.Held.{IsUpTo, leaf_behind}
 use Rattle.log_checker.specs.Gathering.{Gathered, nothing, gathered, gathered_after, gathered_of}
-use Rattle.log_checker.specs.Pieces.{IsNew, Went, Goes, Misfits, IsBehind, PieceDone}
+use Rattle.log_checker.specs.Pieces.{Went, Goes, Misfits, IsBehind}
 use Rattle.log_checker.specs.declared.checking.Progress.{Progress}
-use Rattle.log_checker.specs.declared.fault.CheckFault.{CheckFault}
 use Rattle.log_checker.proofs.Running.{fitted_append, fitted_snoc, leaf_append, leaf_snoc}
 
 -- ---- what lines tell

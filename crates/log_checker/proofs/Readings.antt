@@ -1,6 +1,6 @@
 -- Bytes that a reading may have given, where it is not known which.
-use Rattle.std.proofs.Common.{◌≡◌, ◌<◌, ◌≤◌, ◌+◌, ◌++◌, ◌⊎◌, ℕ, List, [], ◌∷◌, length, take, drop, Option, None, Some, Result, Ok, Err, IfOk, IsErrOf, refl, sym, ◌∙◌, ap, subst, arith}
-use Rattle.std.specs.Prelude.{replicate, min}
+use Rattle.std.proofs.Common.{◌≡◌, ◌<◌, ◌≤◌, ◌+◌, ◌++◌, ℕ, List, [], ◌∷◌, length, take, drop, Option, None, Some, Result, Ok, Err, IfOk, refl, sym, ◌∙◌, ap, subst, arith}
+use Rattle.std.specs.Prelude.{replicate}
 use Rattle.std.proofs.lemmas.List.{length-replicate, length-take, length-drop, length-append}
 use Rattle.poly_model.specs.declared.limits.TheConstants.{MOST_LOG_BYTES}
 use Rattle.poly_model.specs.Domain.{Operations}
@@ -8,7 +8,7 @@ use Rattle.assurance.specs.Assured.{TreesCover, VerdictsHold, TreesKeepVariables
 use Rattle.desk_io.specs.Files.{Files, Holds, ReadsFile, known_at}
 use Rattle.desk_io.proofs.Reading.{front_whole, front_more}
 use Rattle.proof_log.specs.declared.log.Proof.{Proof}
-use Rattle.log_checker.specs.Checked.{problems_of, verdicts_of, AreOf, Judged, FileJudged, ReadJudged, AreAssured, IsCovered, WasRead, ReadOnce}
+use Rattle.log_checker.specs.Checked.{problems_of, verdicts_of, AreOf, Judged, FileJudged, ReadJudged, AreAssured, IsCovered}
 use Rattle.log_checker.specs.Streams.{IsChecked}
 use Rattle.log_checker.specs.declared.checking.Checked.{Checked}
 use Rattle.log_checker.specs.declared.fault.CheckFault.{CheckFault}

@@ -1,11 +1,10 @@
 -- Sizes of nodes as numbers of four bytes.
-use Rattle.std.proofs.Common.{◌≡◌, ℕ, ◌+◌, ◌-◌, ◌^◌, ◌≤◌, List, [], ◌∷◌, ◌++◌, length, refl, sym, ◌∙◌, ap, arith, Bool, true, false, nat_le}
+use Rattle.std.proofs.Common.{◌≡◌, ℕ, ◌+◌, ◌-◌, ◌^◌, List, [], ◌∷◌, ◌++◌, length, refl, ap, arith, Bool, true, false, nat_le}
 use Rattle.std.specs.Prelude.{min, reverse, if◌then◌else◌, Option, Some, None}
 use Rattle.std.proofs.lemmas.Bool.{leb-true, leb-false}
 use Rattle.std.proofs.lemmas.List.{reverse-append}
 use Rattle.std.proofs.lemmas.Option.{same_Some}
 use Rattle.poly_model.specs.Polynomial.{Polynomial}
-use Rattle.proof_steps.specs.Rules.{size_of}
 use Rattle.proof_steps.specs.declared.piece.Node.{Node}
 use Rattle.verdicts.specs.Tallies.{Ending}
 use Rattle.log_checker.specs.Amounts.{spent}

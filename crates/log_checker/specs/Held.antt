@@ -1,5 +1,5 @@
 -- How much of a tree is open while its log is read line by line.
-use Rattle.std.specs.Prelude.{◌≡◌, ◌≤◌, ℕ, ◌+◌, ◌-◌, ◌^◌, min, List, [], ◌∷◌, Option, Some, None}
+use Rattle.std.specs.Prelude.{◌≡◌, ◌≤◌, ℕ, ◌+◌, ◌-◌, ◌^◌, min, List, [], ◌∷◌, Some, None}
 use Rattle.poly_model.specs.Polynomial.{Polynomial}
 use Rattle.proof_steps.specs.Rules.{size_of}
 use Rattle.proof_steps.specs.declared.piece.Node.{Node}
@@ -7,7 +7,7 @@ use Rattle.proof_log.specs.Places.{run, start}
 use Rattle.proof_log.specs.declared.line.LogLine.{LogLine}
 use Rattle.proof_log.specs.declared.line.LogLine.TheVariants as line
 use Rattle.proof_log.specs.declared.place.Place.{Place}
-use Rattle.log_checker.specs.Fitting.{Work, At, Chaining, Ended, Inside, Part, Opening, Within, Between, State, begin, after, fitted}
+use Rattle.log_checker.specs.Fitting.{Work, At, Chaining, Ended, Part, Opening, Within, Between, State, begin, after, fitted}
 
 -- ---- leaves
 

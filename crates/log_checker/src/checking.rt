@@ -48,7 +48,8 @@ impl Progress {
     {
         match line {
             LogLine::System | LogLine::Open { .. } => self.checker.node_size(),
-            LogLine::Head(_) | LogLine::Fuel(_) | LogLine::Proves(_) | LogLine::Prove(_) => self.leaf,
+            LogLine::Head(_) | LogLine::Fuel(_) | LogLine::Proves(_) | LogLine::Prove(_) =>
+                self.leaf,
             LogLine::Vars(_) => self.leaf,
             LogLine::Hyp(_) | LogLine::Con(_) | LogLine::Node(_) | LogLine::Drop(_) => self.leaf,
             LogLine::Red { .. } | LogLine::Tail { .. } | LogLine::Split { .. } => self.leaf,

@@ -1,6 +1,5 @@
-use Rattle.std.proofs.Common.{◌≡◌, ℕ, Bool, true, false, if◌then◌else◌, sym, ◌∙◌, ap, subst, arith}
+use Rattle.std.proofs.Common.{ℕ, Bool, if◌then◌else◌, sym, ◌∙◌, ap, subst, arith}
 use Rattle.verdicts.specs.Tallies.{Stops}
-use Rattle.log_checker.specs.Fitting.{Ended}
 use Rattle.log_checker.specs.Held.{IsUpTo, held_work}
 use Rattle.log_checker.specs.Views.{eqs_due, nes_due, inside_view}
 use Rattle.log_checker.specs.declared.piece.Inside.{Inside}

@@ -1,4 +1,4 @@
-use Rattle.std.proofs.Common.{◌≡◌, length, refl, sym, ◌∙◌, ap, subst, arith, length-append}
+use Rattle.std.proofs.Common.{◌≡◌, length, sym, ◌∙◌, subst}
 use Rattle.std.proofs.lemmas.Bool.{eqb-true}
 use Rattle.log_checker.specs.Checked.{Judged}
 use Rattle.log_checker.proofs.Feedings.{both_parts, none_passed, passed_more, all_passed, room_left}

@@ -1,4 +1,4 @@
-use Rattle.std.proofs.Common.{◌≡◌, ◌≤◌, ◌<◌, ◌+◌, length, refl, ap, ◌∙◌, arith}
+use Rattle.std.proofs.Common.{◌<◌, ◌+◌, refl, ap, ◌∙◌, arith}
 use Rattle.std.proofs.lemmas.List.{length-take}
 use Rattle.poly_model.specs.declared.limits.TheConstants.{MOST_LOG_BYTES}
 use Rattle.desk_io.specs.Files.{known_at}
@@ -78,5 +78,5 @@ returns-then-count-from-clause-read g c =
     let some : 0 < read.count = omega arith in
     let many = many_bytes (g.K.Desk.held c.args.desk.now) c.args.name.now MOST_LOG_BYTES
     (λ file holds. longer file c.read.new.piece l.from read.count MOST_LOG_BYTES read.ensures.bound.0 large some
-        (read.ensures.bytes file (ap (λ h. known_at h c.args.name.now) l.invariant.same ∙ holds))) in
+    (read.ensures.bytes file (ap (λ h. known_at h c.args.name.now) l.invariant.same ∙ holds))) in
     record { bytes = many.bytes; own = many.own; judged = many.many }

@@ -1,6 +1,6 @@
-use Rattle.std.proofs.Common.{ℕ, List, subst, Err, None, Option}
+use Rattle.std.proofs.Common.{subst, Err}
 use Rattle.proof_log.specs.Feeding.{Finished}
-use Rattle.log_checker.specs.Streams.{Reads, CheckedTo, IsChecked}
+use Rattle.log_checker.specs.Streams.{Reads, CheckedTo}
 use Rattle.log_checker.proofs.Feedings.{judged_fault}
 use Rattle.log_checker.proofs.Passes.{as_fed, ends_ill}
 use Rattle.log_checker.proofs.Tellings.{ends_well}
