@@ -112,6 +112,8 @@ module _ {M : Type 0} {o : Operations M} (L : IsDomain o) (zero_or_not : ZeroOrN
     where
       by : (g : Piece) → generic_leaf ps ≡ Some g → (x : Outcome) → g.outcome ≡ x → Claims o problem (verdict_by (conditions ps) g x)
       by g e (outcome.Split f initial) q = tt
+      by g e (outcome.Factor f v) q = tt
+      by g e (outcome.Void j f) q = tt
       by g e (outcome.Close i) q = tt
       by g e (outcome.Clash i j) q = tt
       by g e (outcome.Open r w) q = tt

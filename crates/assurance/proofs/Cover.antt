@@ -8,10 +8,10 @@ use Rattle.poly_model.specs.Polynomial.{Polynomial}
 use Rattle.poly_model.specs.Zeros.{AllZero, NoneZero, IsZero}
 use Rattle.poly_model.specs.Reduction.{same, is_nonzero_constant}
 use Rattle.proof_steps.specs.Numbers.{item, has}
-use Rattle.proof_steps.specs.Rules.{is_valid, is_triangular, reason_of, stepped, size_of}
+use Rattle.proof_steps.specs.Rules.{is_valid, is_void, is_triangular, depth_limit, reason_for, factor_children, reason_of, stepped, size_of}
 use Rattle.proof_steps.specs.Reasons.{same_reason}
 use Rattle.proof_steps.specs.Chain.{chain_fits}
-use Rattle.proof_steps.specs.Trees.{after_steps, same_list, lists, outcome_fits, children}
+use Rattle.proof_steps.specs.Trees.{may_factor, after_steps, same_list, lists, lists_none, outcome_fits, children}
 use Rattle.proof_steps.specs.Leaves.{is_listed, SomeOf}
 use Rattle.proof_steps.specs.declared.piece.Node.{Node}
 use Rattle.proof_steps.specs.declared.piece.Piece.{Piece}
@@ -62,6 +62,13 @@ module _ {M : Type 0} {o : Operations M} (L : IsDomain o) (zero_or_not : ZeroOrN
       let fits = (and_parts (is_valid version m (attempt.Split f) && same_reason (reason_of version m (attempt.Split f)) None) _ h).0 in
       let law = rules.split_keeps L zero_or_not version m f (and_parts (is_valid version m (attempt.Split f)) _ fits).0 point in
       ((λ z. inr (law.0 z)), (λ s. elim s [ inl l ↦ unlisted l.0 | inr t ↦ law.1 t ]))
+  outcome-zeros m p point (outcome.Factor f v) h =
+      let fits = (and_parts (may_factor version m f v && same_reason (reason_for (depth_limit m) (factor_children m f v)) None) (lists_none p) h).0 in
+      let law = rules.factor_keeps L zero_or_not version m f v (and_parts (may_factor version m f v) _ fits).0 point in
+      ((λ z. inr (law.0 z)), (λ s. elim s [ inl l ↦ unlisted l.0 | inr t ↦ law.1 t ]))
+  outcome-zeros m p point (outcome.Void j f) h =
+      let a = and_parts (is_void version m j f) (lists_none p) h in
+      ((λ z. absurd (rules.void_has_none L version m j f a.0 point z)), (λ s. elim s [ inl l ↦ unlisted l.0 | inr w ↦ absurd w ]))
   outcome-zeros m p point (outcome.Close i) h =
       let a = and_parts (has m.eqs i && is_nonzero_constant (item m.eqs i)) _ h in
       let b = and_parts (has m.eqs i) _ a.0 in

@@ -6,13 +6,15 @@ use Rattle.std.proofs.lemmas.List.{append-nil}
 use Rattle.poly_model.specs.Domain.{Operations, IsDomain, ZeroOrNot}
 use Rattle.poly_model.specs.Polynomial.{Polynomial, value_at}
 use Rattle.poly_model.specs.Zeros.{AllZero, IsZero}
-use Rattle.poly_model.specs.Reduction.{same, primitive_initial, primitive_tail}
+use Rattle.poly_model.specs.Powers.{stripped}
+use Rattle.zero_rules.proofs.Rules.{place-within}
+use Rattle.poly_model.specs.Reduction.{same, main_place, primitive_initial, primitive_tail}
 use Rattle.poly_model.specs.Equality.{same-is}
-use Rattle.proof_steps.specs.Numbers.{item, replaced}
-use Rattle.proof_steps.specs.Rules.{is_valid, is_triangular, reason_of, size_of, plus_child, minus_child}
+use Rattle.proof_steps.specs.Numbers.{item, has, replaced}
+use Rattle.proof_steps.specs.Rules.{has_second, is_valid, is_triangular, depth_limit, reason_for, factor_children, reason_of, size_of, plus_child, minus_child}
 use Rattle.proof_steps.specs.Reasons.{same_reason}
 use Rattle.proof_steps.specs.Chain.{chain_fits, is_proved}
-use Rattle.proof_steps.specs.Trees.{same_path, outcome_fits, children, are_trees}
+use Rattle.proof_steps.specs.Trees.{may_factor, lists_none, same_path, outcome_fits, children, are_trees}
 use Rattle.proof_steps.specs.Leaves.{is_listed, SomeOf}
 use Rattle.proof_steps.specs.declared.piece.Node.{Node}
 use Rattle.proof_steps.specs.declared.piece.Piece.{Piece}
@@ -75,6 +77,8 @@ module _ {M : Type 0} {o : Operations M} (L : IsDomain o) (zero_or_not : ZeroOrN
   proved-outcome : (m : Node) (p : Piece) (x : Outcome) → outcome_fits version cons m p x ≡ true → (is_listed x ≡ true) × IsZero o p.eqs p.nes point
       → is_unproved x ≡ false → AllZero o cons point
   proved-outcome m p (outcome.Split f initial) h z u = unlisted z.0
+  proved-outcome m p (outcome.Factor f v) h z u = unlisted z.0
+  proved-outcome m p (outcome.Void j f) h z u = unlisted z.0
   proved-outcome m p (outcome.Close i) h z u = unlisted z.0
   proved-outcome m p (outcome.Clash i j) h z u = unlisted z.0
   proved-outcome m p (outcome.Open r w) h z u = unlisted (sym u)
@@ -145,6 +149,23 @@ module _ {M : Type 0} {o : Operations M} (L : IsDomain o) (zero_or_not : ZeroOrN
         zero = λ z. ap (λ r. value_at o r point) told ∙ (lists.all-back o (replaced m.eqs f (primitive_tail (item m.eqs f))) (J ∷ []) point z.0).0;
         unlisted = refl;
       })
+  kind m p (outcome.Factor f v) h =
+      let a = and_parts (may_factor version m f v && same_reason (reason_for (depth_limit m) (factor_children m f v)) None) (lists_none p) h in
+      let b = and_parts (has_second version && has m.eqs f) _ (and_parts (may_factor version m f v) _ a.0).0 in
+      let up = replaced m.eqs f (stripped (main_place v) (item m.eqs f)) in
+      let down = replaced m.eqs f v in
+      inr (record {
+        plus = plus_child m v up down;
+        minus = minus_child m v down;
+        nodes = refl;
+        up = refl;
+        down = refl;
+        gain = v;
+        gains = refl;
+        zero = λ z. lists.all-of_set o m.eqs (f - 1) v point (place-within m.eqs f (and_parts (has_second version) (has m.eqs f) b.0).1) z.0;
+        unlisted = refl;
+      })
+  kind m p (outcome.Void j f) h = inl (refl, refl)
   kind m p (outcome.Close i) h = inl (refl, refl)
   kind m p (outcome.Clash i j) h = inl (refl, refl)
   kind m p (outcome.System c t) h = inl (refl, refl)

@@ -1,5 +1,5 @@
 -- A test of polynomials that initials, tails and reductions pass on is passed on by steps, chains, pieces and trees.
-use Rattle.std.proofs.Common.{◌≡◌, ℕ, ◌-◌, zero, suc, List, [], ◌∷◌, ◌++◌, map, set, get_or, refl, sym, ◌∙◌, ap, subst, Bool, true, ◌&&◌}
+use Rattle.std.proofs.Common.{◌≡◌, ℕ, ◌-◌, zero, suc, List, [], ◌∷◌, ◌++◌, map, set, get_or, refl, sym, ◌∙◌, ap, subst, Bool, true, ◌&&◌, not}
 use Rattle.std.specs.Prelude.{Some, None, ◌==◌}
 use Rattle.std.specs.List.{list_all, flat_map}
 use Rattle.std.specs.Ordering.{int_eq}
@@ -7,14 +7,16 @@ use Rattle.std.proofs.lemmas.Bool.{and_parts, and_from}
 use Rattle.std.proofs.lemmas.Option.{same_Some}
 use Rattle.std.proofs.lemmas.List.Folds.{list_all-append}
 use Rattle.poly_model.specs.Polynomial.{Polynomial}
-use Rattle.poly_model.specs.Reduction.{same, primitive_initial, primitive_tail, reduction_of, is_nonzero_constant}
+use Rattle.poly_model.specs.Powers.{is_divided, stripped, without_variables, variable_in, is_factor, has_factor}
+use Rattle.proof_steps.proofs.Factors.{factor-divides}
+use Rattle.poly_model.specs.Reduction.{same, class_of, main_place, is_constant, primitive_initial, primitive_tail, reduction_of, is_nonzero_constant}
 use Rattle.poly_model.specs.Equality.{same-is}
 use Rattle.proof_steps.specs.Numbers.{item, has, replaced, without_place}
 use Rattle.proof_steps.specs.Reasons.{same_reason}
-use Rattle.proof_steps.specs.Rules.{is_valid, is_triangular, size_of, reason_of, tells_result, stepped}
+use Rattle.proof_steps.specs.Rules.{has_second, is_valid, is_void, is_triangular, depth_limit, reason_for, factor_children, size_of, reason_of, tells_result, stepped}
 use Rattle.proof_steps.specs.Chain as chain
 use Rattle.proof_steps.specs.Chain.{Due, due_of, reducing_class, first_of_class, chain_reason, is_step, is_remainder, status_fits, step_due, chain_fits}
-use Rattle.proof_steps.specs.Trees.{after_steps, same_list, lists, lists_none, outcome_fits, children}
+use Rattle.proof_steps.specs.Trees.{may_factor, after_steps, same_list, lists, lists_none, outcome_fits, children}
 use Rattle.proof_steps.specs.declared.piece.Node.{Node}
 use Rattle.proof_steps.specs.declared.piece.Piece.{Piece}
 use Rattle.proof_steps.specs.declared.piece.ChainStep.{ChainStep}
@@ -34,6 +36,9 @@ pub record Passed (test : Polynomial → Bool) : Type 0 where
   pub initial : (f : Polynomial) → test f ≡ true → test (primitive_initial f) ≡ true
   pub tail : (f : Polynomial) → test f ≡ true → test (primitive_tail f) ≡ true
   pub reduction : (g f : Polynomial) → test g ≡ true → test f ≡ true → test (reduction_of g f).1 ≡ true
+  pub stripped : (i : ℕ) (p : Polynomial) → test p ≡ true → test (stripped i p) ≡ true
+  pub without : (q p : Polynomial) → test p ≡ true → test (without_variables q p) ≡ true
+  pub variable : (p : Polynomial) (i : ℕ) → is_divided i p ≡ true → test p ≡ true → test (variable_in p i) ≡ true
 
 module _ (test : Polynomial → Bool) (c : Passed test) where
   abbrev pub AllPass : List Polynomial → Type 0
@@ -87,6 +92,11 @@ module _ (test : Polynomial → Bool) (c : Passed test) where
       let told = same-is r (primitive_tail (item n.eqs f)) h in
       let result = c.tail (item n.eqs f) (get-passes n.eqs (f - 1) a.0) in
       ((set-passes n.eqs (f - 1) (primitive_tail (item n.eqs f)) a.0 result, a.1), one r (ap test told ∙ result))
+  step-passes version n (step.Cancel g q r) h a =
+      let R = without_variables (item n.nes q) (item n.eqs g) in
+      let told = same-is r R h in
+      let result = c.without (item n.nes q) (item n.eqs g) (get-passes n.eqs (g - 1) a.0) in
+      ((set-passes n.eqs (g - 1) R a.0 result, a.1), one r (ap test told ∙ result))
 
   steps-pass : (version : ℕ) (n : Node) (steps : List Step) (m : Node) → after_steps version n steps ≡ Some m → NodePasses n
       → NodePasses m × AllPass (flat_map of_step steps)
@@ -185,6 +195,23 @@ module _ (test : Polynomial → Bool) (c : Passed test) where
           ((both (replaced m.eqs f (primitive_tail F)) (J ∷ []) minus (one J J_passes), n.1), tt),
         ),
       )
+  outcome-passes version cons k m p (outcome.Factor f v) h n =
+      let F = item m.eqs f in
+      let i = main_place v in
+      let a = and_parts (may_factor version m f v && same_reason (reason_for (depth_limit m) (factor_children m f v)) None) (lists_none p) h in
+      let b = and_parts (has_second version && has m.eqs f) _ (and_parts (may_factor version m f v) _ a.0).0 in
+      let factor = (and_parts (not (is_constant F)) (has_factor F v) b.1).1 in
+      let told = same-is v (variable_in F i) (and_parts (is_factor F (class_of v)) (same v (variable_in F i)) factor).1 in
+      let F_passes = get-passes m.eqs (f - 1) n.0 in
+      let v_passes = ap test told ∙ c.variable F i (factor-divides F v factor) F_passes in (
+        none-listed p a.1,
+        one v v_passes,
+        (
+          (set-passes m.eqs (f - 1) (stripped i F) n.0 (c.stripped i F F_passes), both m.nes (v ∷ []) n.1 (one v v_passes)),
+          ((set-passes m.eqs (f - 1) v n.0 v_passes, n.1), tt),
+        ),
+      )
+  outcome-passes version cons k m p (outcome.Void j f) h n = (none-listed p (and_parts (is_void version m j f) (lists_none p) h).1, refl, tt)
   outcome-passes version cons k m p (outcome.Close i) h n = (none-listed p (and_parts (has m.eqs i && is_nonzero_constant (item m.eqs i)) _ h).1, refl, tt)
   outcome-passes version cons k m p (outcome.Clash i j) h n =
       (none-listed p (and_parts (has m.eqs i && (has m.nes j && same (item m.eqs i) (item m.nes j))) _ h).1, refl, tt)

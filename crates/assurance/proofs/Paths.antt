@@ -71,6 +71,10 @@ pub child-paths : (version : ℕ) (m : Node) (x : Outcome) (P : Node → Type 0)
 child-paths version m (outcome.Split f initial) P (inl p) = inl (p, (true, refl))
 child-paths version m (outcome.Split f initial) P (inr (inl p)) = inr (inl (p, (false, refl)))
 child-paths version m (outcome.Split f initial) P (inr (inr w)) = absurd w
+child-paths version m (outcome.Factor f v) P (inl p) = inl (p, (true, refl))
+child-paths version m (outcome.Factor f v) P (inr (inl p)) = inr (inl (p, (false, refl)))
+child-paths version m (outcome.Factor f v) P (inr (inr w)) = absurd w
+child-paths version m (outcome.Void j f) P s = absurd s
 child-paths version m (outcome.Close i) P s = absurd s
 child-paths version m (outcome.Clash i j) P s = absurd s
 child-paths version m (outcome.System c t) P s = absurd s

@@ -5,7 +5,8 @@ use Rattle.std.proofs.lemmas.Bool.{and_parts, and_from, not_from_false}
 use Rattle.std.proofs.lemmas.List.{append-nil}
 use Rattle.poly_model.specs.Polynomial.{Polynomial}
 use Rattle.proof_steps.specs.Numbers.{item, replaced}
-use Rattle.poly_model.specs.Reduction.{primitive_initial, primitive_tail}
+use Rattle.poly_model.specs.Powers.{stripped}
+use Rattle.poly_model.specs.Reduction.{main_place, primitive_initial, primitive_tail}
 use Rattle.proof_steps.specs.Rules.{plus_child, minus_child, size_of}
 use Rattle.proof_steps.specs.Trees.{same_path, children, are_trees, root_of, is_tree_of}
 use Rattle.proof_steps.specs.declared.piece.Node.{Node}
@@ -32,6 +33,8 @@ conditions_from g ps = map (λ p. g (plus_part p.path)) (filter is_off ps)
 
 unproved-is : (x : Outcome) → leaves_some (ending_of x) ≡ is_unproved x
 unproved-is (outcome.Split f initial) = refl
+unproved-is (outcome.Factor f v) = refl
+unproved-is (outcome.Void j f) = refl
 unproved-is (outcome.Close i) = refl
 unproved-is (outcome.Clash i j) = refl
 unproved-is (outcome.System chain status.Proved) = refl
@@ -75,6 +78,11 @@ kind version m (outcome.Split f initial) =
     let J = primitive_initial (item m.eqs f) in
     let rest = replaced m.eqs f (primitive_tail (item m.eqs f)) ++ J ∷ [] in
     inr (record { plus = plus_child m J m.eqs rest; minus = minus_child m J rest; nodes = refl; up = refl; down = refl; gain = initial; gains = refl; ending = refl; proved = refl })
+kind version m (outcome.Factor f v) =
+    let up = replaced m.eqs f (stripped (main_place v) (item m.eqs f)) in
+    let down = replaced m.eqs f v in
+    inr (record { plus = plus_child m v up down; minus = minus_child m v down; nodes = refl; up = refl; down = refl; gain = v; gains = refl; ending = refl; proved = refl })
+kind version m (outcome.Void j f) = inl (record { nodes = refl; leaf = refl; ends = leaf-ends Empty })
 kind version m (outcome.Close i) = inl (record { nodes = refl; leaf = refl; ends = leaf-ends Empty })
 kind version m (outcome.Clash i j) = inl (record { nodes = refl; leaf = refl; ends = leaf-ends Empty })
 kind version m (outcome.System c status.Proved) = inl (record { nodes = refl; leaf = refl; ends = leaf-ends Proves })
@@ -228,6 +236,8 @@ walk g version cons (p ∷ ps) n ns j t h path b known size none later =
 -- ---- the law
 verdict-same : (cs : List Polynomial) (p : Piece) (x : Outcome) → verdict_at cs p.path (ending_of x) ≡ verdict_by cs p x
 verdict-same cs p (outcome.Split f initial) = refl
+verdict-same cs p (outcome.Factor f v) = refl
+verdict-same cs p (outcome.Void j f) = refl
 verdict-same cs p (outcome.Close i) = refl
 verdict-same cs p (outcome.Clash i j) = refl
 verdict-same cs p (outcome.System c status.Proved) = refl

@@ -6,6 +6,8 @@ use Rattle.std.proofs.lemmas.Bool.{and_parts, and_from}
 use Rattle.std.proofs.lemmas.Option.{same_Some}
 use Rattle.poly_model.specs.Polynomial.{Polynomial, is_over}
 use Rattle.poly_model.specs.Reduction.{same, initial_of, tail_of, main_place, main_degree}
+use Rattle.poly_model.specs.Powers.{low_at}
+use Rattle.poly_model.proofs.PowersWithin.{over-lowered, over-without_variables, over-variable_in}
 use Rattle.poly_model.proofs.Over.{over-initial, over-without, over-primitive_part, over-reduction}
 use Rattle.proof_steps.specs.Rules.{size_of}
 use Rattle.proof_steps.specs.Trees.{same_path, root_of}
@@ -58,6 +60,8 @@ module _ (test : Polynomial → Bool) (c : Passed test) where
 
   gain-passes : (x : Outcome) → All (of_outcome x) → test (unwrap_or (gain_of x) []) ≡ true
   gain-passes (outcome.Split f initial) h = (and_parts (test initial) _ h).0
+  gain-passes (outcome.Factor f v) h = (and_parts (test v) _ h).0
+  gain-passes (outcome.Void j f) h = c.none
   gain-passes (outcome.Close i) h = c.none
   gain-passes (outcome.Clash i j) h = c.none
   gain-passes (outcome.System cs s) h = c.none
@@ -90,6 +94,8 @@ module _ (test : Polynomial → Bool) (c : Passed test) where
     where
       by : (g : Piece) (x : Outcome) → All (of_outcome x) → All (of_verdict (verdict_by (conditions ps) g x))
       by g (outcome.Split f initial) k = refl
+      by g (outcome.Factor f v) k = refl
+      by g (outcome.Void j f) k = refl
       by g (outcome.Close i) k = refl
       by g (outcome.Clash i j) k = refl
       by g (outcome.Open why what) k = refl
@@ -103,6 +109,9 @@ over-passed n = record {
   initial = λ f h. over-primitive_part n (initial_of f) ∙ over-initial n f h;
   tail = λ f h. over-primitive_part n (tail_of f) ∙ over-without n (main_place f) (main_degree f) f h;
   reduction = λ g f a b. over-reduction n g f a b;
+  stripped = λ i p h. over-lowered n i (low_at i p) p h;
+  without = λ q p h. over-without_variables n q p h;
+  variable = λ p i d h. over-variable_in n p i d h;
 }
 
 pub keeps_variables : TreesKeepVariables

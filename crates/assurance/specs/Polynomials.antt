@@ -17,6 +17,7 @@ abbrev pub of_step : Step → List Polynomial
 of_step (step.Drop i) = []
 of_step (step.Red g f m r) = r ∷ []
 of_step (step.Tail f r) = r ∷ []
+of_step (step.Cancel g q r) = r ∷ []
 
 abbrev pub of_status : LeafStatus → List Polynomial
 of_status status.Proved = []
@@ -25,8 +26,10 @@ of_status (status.Unreduced k reason f) = []
 
 abbrev pub of_outcome : Outcome → List Polynomial
 of_outcome (outcome.Split f initial) = initial ∷ []
+of_outcome (outcome.Factor f v) = v ∷ []
 of_outcome (outcome.Close i) = []
 of_outcome (outcome.Clash i j) = []
+of_outcome (outcome.Void j f) = []
 of_outcome (outcome.System chain s) = map (λ (c : ChainStep). c.r) chain ++ of_status s
 of_outcome (outcome.Open reason what) = []
 

@@ -1,19 +1,22 @@
 -- What is known is known behind each line more that fits.
 use Rattle.std.proofs.Common.{◌≡◌, ℕ, ◌+◌, ◌-◌, ◌≤◌, List, [], ◌∷◌, ◌++◌, Bool, true, false, not, ◌&&◌, ◌==◌, nat_lt, refl, sym, ◌∙◌, ap, subst, arith, Option, Some, None}
+use Rattle.std.specs.List.{list_any}
 use Rattle.std.specs.Prelude.{ℤ, nat_le}
-use Rattle.std.proofs.lemmas.Bool.{and_parts, leb-true}
+use Rattle.std.proofs.lemmas.Bool.{and_parts, leb-true, or_parts}
 use Rattle.std.proofs.lemmas.Nat.{le-div}
 use Rattle.std.proofs.lemmas.Option.{same_Some}
 use Rattle.poly_model.specs.Polynomial.{Polynomial}
-use Rattle.poly_model.specs.Reduction.{same}
+use Rattle.poly_model.specs.Powers.{stripped}
+use Rattle.poly_model.specs.Reduction.{main_place, same}
 use Rattle.poly_model.specs.declared.limits.Reason.{Reason}
 use Rattle.poly_model.specs.declared.limits.TheConstants.{MOST_HYPOTHESES, MOST_CONCLUSIONS}
 use Rattle.poly_model.specs.declared.vars.VarName.{VarName}
 use Rattle.proof_steps.specs.Chain as chain
 use Rattle.proof_steps.specs.Chain.{Due, due_of}
-use Rattle.proof_steps.specs.Rules.{has_second, is_valid, reason_of, made, attempt_of, stepped, size_of}
+use Rattle.proof_steps.specs.Numbers.{item, replaced}
+use Rattle.proof_steps.specs.Rules.{has_second, is_short, is_valid, depth_limit, factor_children, plus_child, minus_child, reason_for, reason_of, made, attempt_of, stepped, size_of}
 use Rattle.proof_steps.specs.Reasons.{same_reason}
-use Rattle.proof_steps.specs.Trees.{step_fits, same_path}
+use Rattle.proof_steps.specs.Trees.{may_factor, step_fits, same_path}
 use Rattle.proof_steps.specs.declared.piece.ChainStep.{ChainStep}
 use Rattle.proof_steps.specs.declared.piece.Node.{Node}
 use Rattle.proof_steps.specs.declared.step.Attempt.TheVariants as attempt
@@ -23,6 +26,7 @@ use Rattle.proof_steps.specs.declared.step.Step.TheVariants as step
 use Rattle.proof_steps.proofs.Following.{none-reason, step-fits}
 use Rattle.tree_laws.specs.Costs.{HaveFuel}
 use Rattle.tree_laws.proofs.Paid.{have-append, reasons-are-right}
+use Rattle.tree_laws.proofs.Unfold.{holds-size, one-short, reason_by-none}
 use Rattle.verdicts.specs.Tallies.{Ending, no_tally}
 use Rattle.verdicts.specs.declared.verdict.Verdict.{Verdict}
 use Rattle.proof_log.specs.Headings.{share_of}
@@ -35,7 +39,7 @@ use Rattle.proof_log.specs.declared.place.Part.{Part}
 use Rattle.proof_log.specs.declared.place.Part.TheVariants as part
 use Rattle.proof_log.specs.declared.place.Place.{Place}
 use Rattle.log_checker.specs.Fitting as fitting
-use Rattle.log_checker.specs.Fitting.{Work, At, Chaining, Ended, Inside, State, listed, where_fits, where_whole, by_node, at_node, by_chain, in_chain, step_row, split_row, close_row, clash_row, system_row, open_row, chain_row, proved_row, remainder_row, unreduced_row, eq_row, ne_row, in_piece, end_of_work, end_of, root, behind, settled, node_row, node_settled, verdict_row, verdict_settled, inside_row, by_part, after}
+use Rattle.log_checker.specs.Fitting.{Work, At, Chaining, Ended, Inside, State, listed, where_fits, where_whole, by_node, at_node, by_chain, in_chain, step_row, split_row, factor_row, void_row, close_row, clash_row, system_row, open_row, chain_row, proved_row, remainder_row, unreduced_row, eq_row, ne_row, in_piece, end_of_work, end_of, root, behind, settled, node_row, node_settled, verdict_row, verdict_settled, inside_row, by_part, after}
 use Rattle.first_fault.proofs.Places.{cases, by_parts, Stepped, held, failed}
 use Rattle.first_fault.proofs.Standing.{IsNode, Works, Inner, IsBetween, IsOpening, IsWithin, InProof, HeadFuel, NextFuel, Known, Stands, IsPosing}
 
@@ -78,6 +82,15 @@ stepped-fuel : (version : ℕ) (n : Node) (s : Step) → reason_of version n (at
 stepped-fuel version n (step.Drop i) free = (made-fuel version n (attempt.Drop i) free).0
 stepped-fuel version n (step.Red g f m r) free = (made-fuel version n (attempt.Red g f) free).0
 stepped-fuel version n (step.Tail f r) free = (made-fuel version n (attempt.Tail f) free).0
+stepped-fuel version n (step.Cancel g q r) free = (made-fuel version n (attempt.Cancel g q) free).0
+
+-- so it is with the children of a factor on any variable
+factor-fuel : (n : Node) (f : ℕ) (v : Polynomial) → reason_for (depth_limit n) (factor_children n f v) ≡ None → HaveFuel (factor_children n f v)
+factor-fuel n f v free =
+    let up = replaced n.eqs f (stripped (main_place v) (item n.eqs f)) in
+    let down = replaced n.eqs f v in
+    let short = or_parts (is_short (plus_child n v up down)) _ (reason_by-none (depth_limit n) (list_any is_short (factor_children n f v)) free).1 in
+    (holds-size (plus_child n v up down) short.0, (one-short (minus_child n v down) short.1, tt))
 
 -- ---- the rows of lines inside a piece
 step-gives : (version : ℕ) (n : Node) (s : Step) (w : Bool) (j : Inside) → step_row version n s ≡ Some j → Inner part.Steps w j
@@ -90,6 +103,15 @@ split-gives version n f initial j e =
     let r = fits-some _ _ j e in
     let free = none-reason (reason_of version n (attempt.Split f)) (and_parts (is_valid version n (attempt.Split f)) _ (and_parts (is_valid version n (attempt.Split f) && same_reason (reason_of version n (attempt.Split f)) None) _ r.0).0).1 in
     subst (Inner part.Pieces true) r.1 (refl, tt, tt, made-fuel version n (attempt.Split f) free)
+
+factor-gives : (version : ℕ) (n : Node) (f : ℕ) (v : Polynomial) (j : Inside) → factor_row version n f v ≡ Some j → Inner part.Pieces true j
+factor-gives version n f v j e =
+    let r = fits-some _ _ j e in
+    let free = none-reason (reason_for (depth_limit n) (factor_children n f v)) (and_parts (may_factor version n f v) _ r.0).1 in
+    subst (Inner part.Pieces true) r.1 (refl, tt, tt, factor-fuel n f v free)
+
+void-gives : (version : ℕ) (n : Node) (k f : ℕ) (j : Inside) → void_row version n k f ≡ Some j → Inner part.Pieces true j
+void-gives version n k f j e = subst (Inner part.Pieces true) (fits-some _ _ j e).1 (refl, tt, tt, tt)
 
 close-gives : (n : Node) (i : ℕ) (j : Inside) → close_row n i ≡ Some j → Inner part.Pieces true j
 close-gives n i j e = subst (Inner part.Pieces true) (fits-some _ _ j e).1 (refl, tt, tt, tt)
@@ -201,6 +223,18 @@ module _ (version : ℕ) (cons : List Polynomial) (i j : Inside) where
   tail-in : (f : ℕ) (r : Polynomial) (w : Bool) → Inner part.Steps w i → Gives (line.Tail f r) (Inner part.Steps w j)
   unfolding in_piece
   tail-in f r w h e = at_node-some (Inner part.Steps w) i j w (λ n. step_row version n (step.Tail f r)) h (λ n _ q. step-gives version n (step.Tail f r) w j q) e
+
+  cancel-in : (g q : ℕ) (r : Polynomial) (w : Bool) → Inner part.Steps w i → Gives (line.Cancel g q r) (Inner part.Steps w j)
+  unfolding in_piece
+  cancel-in g q r w h e = at_node-some (Inner part.Steps w) i j w (λ n. step_row version n (step.Cancel g q r)) h (λ n _ p. step-gives version n (step.Cancel g q r) w j p) e
+
+  factor-in : (f : ℕ) (v : Polynomial) (w : Bool) → Inner part.Steps w i → Gives (line.Factor f v) (Inner part.Pieces true j)
+  unfolding in_piece
+  factor-in f v w h e = at_node-some (Inner part.Pieces true) i j w (λ n. factor_row version n f v) h (λ n _ r. factor-gives version n f v j r) e
+
+  void-in : (k f : ℕ) (w : Bool) → Inner part.Steps w i → Gives (line.Void k f) (Inner part.Pieces true j)
+  unfolding in_piece
+  void-in k f w h e = at_node-some (Inner part.Pieces true) i j w (λ n. void_row version n k f) h (λ n _ r. void-gives version n k f j r) e
 
   split-in : (f : ℕ) (p : Polynomial) (w : Bool) → Inner part.Steps w i → Gives (line.Split f p) (Inner part.Pieces true j)
   unfolding in_piece
@@ -392,6 +426,24 @@ module _ (s r : Place) (t v : State) where
       from (Stands r v) (line.Tail f q) d k (
         (λ b. moves (line.Tail f q) part.Steps part.Steps s.whole d.counts (λ _ _. refl) d.behind (same_Some _ _ d.count) (λ u h. h)
             (λ x y h. tail-in t.version t.cons x y f q s.whole h) e b),
+        tt,
+      )
+  keeps names (line.Cancel g c q) p d k e =
+      from (Stands r v) (line.Cancel g c q) d k (
+        (λ b. moves (line.Cancel g c q) part.Steps part.Steps s.whole d.counts (λ _ _. refl) d.behind (same_Some _ _ d.count) (λ u h. h)
+            (λ x y h. cancel-in t.version t.cons x y g c q s.whole h) e b),
+        tt,
+      )
+  keeps names (line.Factor f q) p d k e =
+      from (Stands r v) (line.Factor f q) d k (
+        (λ b. moves (line.Factor f q) part.Steps part.Pieces true d.counts (λ _ _. refl) d.behind (same_Some _ _ d.count) (λ u h. h)
+            (λ x y h. factor-in t.version t.cons x y f q s.whole h) e b),
+        tt,
+      )
+  keeps names (line.Void i f) p d k e =
+      from (Stands r v) (line.Void i f) d k (
+        (λ b. moves (line.Void i f) part.Steps part.Pieces true d.counts (λ _ _. refl) d.behind (same_Some _ _ d.count) (λ u h. h)
+            (λ x y h. void-in t.version t.cons x y i f s.whole h) e b),
         tt,
       )
   keeps names (line.Split f q) p d k e =

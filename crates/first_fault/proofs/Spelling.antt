@@ -37,9 +37,12 @@ posing names (line.Node path) h = tt
 posing names (line.Drop i) h = tt
 posing names (line.Red g f m r) h = tt
 posing names (line.Tail f r) h = tt
+posing names (line.Cancel g q r) h = tt
 posing names (line.Split f initial) h = tt
+posing names (line.Factor f v) h = tt
 posing names (line.Close i) h = tt
 posing names (line.Clash i j) h = tt
+posing names (line.Void j f) h = tt
 posing names line.System h = tt
 posing names (line.Chain c) h = tt
 posing names line.Proved h = tt
@@ -158,9 +161,11 @@ as-shown h log = record { heading = shown h; stated = λ e. ap (λ b. if b then 
     by false = refl
 
 -- The lines of an accepted log are lines of its version.
-pub log-own : (h : Heading) (log : List Proof) → IsLog log → AreLines [] (log_lines h log) → AreOf unsettled (log_lines h log)
-log-own h log fits lines = log-settled h log fits.proofs lines (by (has_second h.version))
+pub log-own : (h : Heading) (log : List Proof) → IsLog log → IsAccepted h log → AreLines [] (log_lines h log) → AreOf unsettled (log_lines h log)
+log-own h log fits accepted lines = log-settled h log fits.proofs lines (by (has_second h.version) refl)
   where
-    by : (b : Bool) → (b ≡ true) ⊎ AreFirst (line.Head h.version ∷ (fuel_lines b h.fuel ++ (line.Proves (length log) ∷ (proofs_lines 1 log ++ line.End ∷ []))))
-    by true = inl refl
-    by false = inr (head-first h.version (length log) (proofs_lines 1 log ++ line.End ∷ []) (proofs-first 1 log))
+    by : (b : Bool) → has_second h.version ≡ b
+        → (b ≡ true) ⊎ AreFirst (line.Head h.version ∷ (fuel_lines b h.fuel ++ (line.Proves (length log) ∷ (proofs_lines 1 log ++ line.End ∷ []))))
+    by true e = inl refl
+    by false e =
+        inr (head-first h.version (length log) (proofs_lines 1 log ++ line.End ∷ []) (proofs-first h.version e (share_of h.fuel (length log)) 1 log accepted))

@@ -1,14 +1,17 @@
 -- Lines with which a log goes on to its end: the work on nodes, and the problems that are left.
-use Rattle.std.proofs.Common.{◌≡◌, ℕ, ◌+◌, ◌-◌, ◌<◌, ◌≤◌, zero, suc, List, [], ◌∷◌, ◌++◌, Bool, true, false, inl, inr, ◌⊎◌, refl, sym, ◌∙◌, ap, subst, arith, Option, Some, None}
+use Rattle.std.proofs.Common.{◌≡◌, ℕ, ◌+◌, ◌-◌, ◌<◌, ◌≤◌, zero, suc, List, [], ◌∷◌, ◌++◌, Bool, true, false, not, ◌&&◌, inl, inr, ◌⊎◌, refl, sym, ◌∙◌, ap, subst, arith, Option, Some, None}
 use Rattle.std.specs.Ordering.{int_eq}
-use Rattle.std.proofs.lemmas.Bool.{and_from, le-leb}
+use Rattle.std.specs.Prelude.{is_some}
+use Rattle.std.proofs.lemmas.Bool.{and_from, and_parts, le-leb}
 use Rattle.poly_model.specs.Equality.{same-self}
 use Rattle.poly_model.specs.Polynomial.{Polynomial}
-use Rattle.poly_model.specs.Reduction.{same, is_nonzero_constant, primitive_initial, primitive_tail, reduction_of}
+use Rattle.poly_model.specs.Powers.{stripped, without_variables}
+use Rattle.poly_model.specs.Reduction.{main_place, same, is_constant, is_nonzero_constant, primitive_initial, primitive_tail, reduction_of}
 use Rattle.poly_model.specs.declared.limits.Reason.{Reason}
 use Rattle.poly_model.specs.declared.vars.VarName.{VarName}
 use Rattle.proof_steps.specs.Numbers.{item, has, replaced}
-use Rattle.proof_steps.specs.Rules.{has_second, is_valid, is_triangular, reason_of, made, attempt_of, tells_result, stepped, size_of, plus_child}
+use Rattle.proof_steps.specs.Rules.{has_second, least_factor, least_variable, is_valid, is_void, is_triangular, reason_of, made, attempt_of, tells_result, stepped, size_of, plus_child}
+use Rattle.proof_steps.specs.Trees.{may_factor}
 use Rattle.proof_steps.specs.Work as work
 use Rattle.proof_steps.specs.Work.{Next, next}
 use Rattle.proof_steps.specs.declared.piece.Node.{Node}
@@ -16,6 +19,7 @@ use Rattle.proof_steps.specs.declared.step.Attempt.{Attempt}
 use Rattle.proof_steps.specs.declared.step.Attempt.TheVariants as attempt
 use Rattle.proof_steps.specs.declared.step.Step.{Step}
 use Rattle.proof_steps.specs.declared.step.Step.TheVariants as step
+use Rattle.proof_steps.proofs.Factors.{least-has}
 use Rattle.proof_steps.proofs.Following.{same_path-self}
 use Rattle.tree_laws.specs.Costs.{total_fuel, HaveFuel}
 use Rattle.tree_laws.specs.Due.{IsRight}
@@ -46,11 +50,13 @@ inner-step : (s : Step) → IsInner (step_line s)
 inner-step (step.Drop i) _ _ = refl
 inner-step (step.Red g f m r) _ _ = refl
 inner-step (step.Tail f r) _ _ = refl
+inner-step (step.Cancel g q r) _ _ = refl
 
 poses-step : (s : Step) (names : List VarName) → IsPosing names (step_line s)
 poses-step (step.Drop i) names = tt
 poses-step (step.Red g f m r) names = tt
 poses-step (step.Tail f r) names = tt
+poses-step (step.Cancel g q r) names = tt
 
 -- What is known of the proof that is told, and that the log goes on behind it.
 module _ (s : Place) (o : State)
@@ -139,18 +145,35 @@ module _ (s : Place) (o : State)
   unfolding in_piece
   reads-split m f v e = fits-from _ _ (and_from _ _ (and_from (is_valid o.version m (attempt.Split f)) _ v (same_reason-is _ _ e)) (same-self (primitive_initial (item m.eqs f))))
 
+  reads-factor : (m : Node) (f : ℕ) → is_valid o.version m (attempt.Factor f) ≡ true → reason_of o.version m (attempt.Factor f) ≡ None
+      → in_piece o.version o.cons (listed (At m)) (line.Factor f (least_variable (item m.eqs f)))
+      ≡ Some (listed (Ended (made o.version m (attempt.Factor f)) (Parts (least_variable (item m.eqs f)))))
+  unfolding in_piece
+  reads-factor m f v e =
+      let F = item m.eqs f in
+      let a = and_parts (has_second o.version && has m.eqs f) _ v in
+      let b = and_parts (not (is_constant F)) (is_some (least_factor F)) a.1 in
+      fits-from _ _ (and_from (may_factor o.version m f (least_variable F)) _ (and_from _ _ a.0 (and_from _ _ b.0 (least-has F b.1))) (same_reason-is _ _ e))
+
+  reads-void : (m : Node) (j f : ℕ) → is_void o.version m j f ≡ true
+      → in_piece o.version o.cons (listed (At m)) (line.Void j f) ≡ Some (listed (Ended [] Empty))
+  unfolding in_piece
+  reads-void m j f h = fits-from _ _ h
+
   reads-step : (m : Node) (x : Step) → is_valid o.version m (attempt_of x) ≡ true → reason_of o.version m (attempt_of x) ≡ None → tells_result m x ≡ true
       → in_piece o.version o.cons (listed (At m)) (step_line x) ≡ Some (listed (At (stepped m x)))
   unfolding in_piece
   reads-step m (step.Drop i) v e r = fits-from _ _ (and_from _ _ (and_from _ _ v (same_reason-is _ _ e)) r)
   reads-step m (step.Red g f k q) v e r = fits-from _ _ (and_from _ _ (and_from _ _ v (same_reason-is _ _ e)) r)
   reads-step m (step.Tail f q) v e r = fits-from _ _ (and_from _ _ (and_from _ _ v (same_reason-is _ _ e)) r)
+  reads-step m (step.Cancel g c q) v e r = fits-from _ _ (and_from _ _ (and_from _ _ v (same_reason-is _ _ e)) r)
 
   step-goes : (w : Bool) (x : Step) → goes (at_ part.Steps w) (step_line x) ≡ Some (at_ part.Steps w)
   unfolding goes
   step-goes w (step.Drop i) = refl
   step-goes w (step.Red g f m r) = refl
   step-goes w (step.Tail f r) = refl
+  step-goes w (step.Cancel g q r) = refl
 
   -- both children of a split have less than the node
   split-fuel : (m : Node) (f : ℕ) → reason_of o.version m (attempt.Split f) ≡ None
@@ -161,6 +184,18 @@ module _ (s : Place) (o : State)
       let have : HaveFuel (made o.version m (attempt.Split f)) = ((reasons-are-right o.version m (attempt.Split f)).2.1 e).1 in
       let plus : size_of (plus_child m J m.eqs minus) ≤ (plus_child m J m.eqs minus).fuel = have.0 in
       let some = size-some (plus_child m J m.eqs minus) in
+      (have, omega (arith, plus, some))
+
+  -- and so have both of a factor
+  factor-fuel : (m : Node) (f : ℕ) → reason_of o.version m (attempt.Factor f) ≡ None
+      → HaveFuel (made o.version m (attempt.Factor f)) × (total_fuel (made o.version m (attempt.Factor f)) < m.fuel)
+  factor-fuel m f e =
+      let v = least_variable (item m.eqs f) in
+      let up = replaced m.eqs f (stripped (main_place v) (item m.eqs f)) in
+      let down = replaced m.eqs f v in
+      let have : HaveFuel (made o.version m (attempt.Factor f)) = ((reasons-are-right o.version m (attempt.Factor f)).2.1 e).1 in
+      let plus : size_of (plus_child m v up down) ≤ (plus_child m v up down).fuel = have.0 in
+      let some = size-some (plus_child m v up down) in
       (have, omega (arith, plus, some))
 
   module _ (path : List Bool) (ns : List Node) (t : Tally) (w : Bool) (b : HaveFuel ns) (k : ℕ) (nodes : OfNodes k) where
@@ -190,6 +225,12 @@ module _ (s : Place) (o : State)
     clash m i j few a d e =
         inner s o part.Steps part.Pieces w true path (listed (At m)) (listed (Ended [] Empty)) ns t (line.Clash i j) (λ _ _. refl) (λ _. tt) refl
         (reads-clash m i j a d e) (leaf part.Pieces (inr (inr refl)) Empty few)
+
+    void : (m : Node) (j f : ℕ) → total_fuel ns ≤ k → is_void o.version m j f ≡ true → Whole m
+    unfolding goes
+    void m j f few h =
+        inner s o part.Steps part.Pieces w true path (listed (At m)) (listed (Ended [] Empty)) ns t (line.Void j f) (λ _ _. refl) (λ _. tt) refl
+        (reads-void m j f h) (leaf part.Pieces (inr (inr refl)) Empty few)
 
     solved : (m : Node) → total_fuel ns ≤ k → is_triangular m.eqs m.nes ≡ true → Whole m
     unfolding goes
@@ -223,6 +264,16 @@ module _ (s : Place) (o : State)
         inner s o part.Steps part.Pieces w true path (listed (At m)) (listed (Ended ms (Parts J))) ns t (line.Split f J) (λ _ _. refl) (λ _. tt) refl
         (reads-split m f v e) (rest k nodes part.Pieces (inr (inr refl)) path ms ns (Parts J) t less.0 b (omega (arith, below, few)))
 
+    factor : (m : Node) (f : ℕ) → m.fuel + total_fuel ns ≤ suc k → is_valid o.version m (attempt.Factor f) ≡ true → reason_of o.version m (attempt.Factor f) ≡ None → Whole m
+    unfolding goes
+    factor m f few v e =
+        let x = least_variable (item m.eqs f) in
+        let ms = made o.version m (attempt.Factor f) in
+        let less = factor-fuel m f e in
+        let below = less.1 in
+        inner s o part.Steps part.Pieces w true path (listed (At m)) (listed (Ended ms (Parts x))) ns t (line.Factor f x) (λ _ _. refl) (λ _. tt) refl
+        (reads-factor m f v e) (rest k nodes part.Pieces (inr (inr refl)) path ms ns (Parts x) t less.0 b (omega (arith, below, few)))
+
     tried : (m : Node) (a : Attempt) → m.fuel + total_fuel ns ≤ suc k → size_of m ≤ m.fuel → is_valid o.version m a ≡ true → (r : Option Reason) → reason_of o.version m a ≡ r → Whole m
     tried m a few enough v (Some why) e = let s = size-some m in opened m a why (omega (arith, few, enough, s)) v e
     tried m (attempt.Drop i) few enough v None e =
@@ -239,11 +290,18 @@ module _ (s : Place) (o : State)
         let f = stepped-fit o.version m (attempt.Tail i) (step.Tail i T) e refl in
         let less = f.less in
         step-on m (step.Tail i T) v e (same-self T) (omega (arith, less, few)) f.enough
+    tried m (attempt.Cancel g q) few enough v None e =
+        let R = without_variables (item m.nes q) (item m.eqs g) in
+        let f = stepped-fit o.version m (attempt.Cancel g q) (step.Cancel g q R) e refl in
+        let less = f.less in
+        step-on m (step.Cancel g q R) v e (same-self R) (omega (arith, less, few)) f.enough
     tried m (attempt.Split f) few enough v None e = split m f few v e
+    tried m (attempt.Factor f) few enough v None e = factor m f few v e
 
     due : (m : Node) (x : Next) → m.fuel + total_fuel ns ≤ suc k → size_of m ≤ m.fuel → IsRight o.version m x → Whole m
     due m (work.Closed i) few enough r = let s = size-some m in close m i (omega (arith, few, enough, s)) r.0 r.1
     due m (work.Clashed i j) few enough r = let s = size-some m in clash m i j (omega (arith, few, enough, s)) r.0 r.1 r.2
+    due m (work.Voided j f) few enough r = let s = size-some m in void m j f (omega (arith, few, enough, s)) r
     due m work.Solved few enough r = let s = size-some m in solved m (omega (arith, few, enough, s)) r
     due m (work.Try a) few enough r = tried m a few enough r (reason_of o.version m a) refl
 

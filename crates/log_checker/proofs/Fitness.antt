@@ -1,6 +1,6 @@
 -- When a rule's line fits: it is valid, nothing stops it, and the line tells its result.
 use Rattle.std.proofs.Common.{◌≡◌, ℕ, refl, sym, ◌∙◌, ap, Bool, true, false, ◌&&◌, ◌||◌, not}
-use Rattle.std.specs.Prelude.{◌==◌, if◌then◌else◌, Option, Some, None, is_none, is_some}
+use Rattle.std.specs.Prelude.{◌==◌, if◌then◌else◌, Option, Some, None, is_none, is_some, Result, Ok, Err, IfOk}
 use Rattle.std.proofs.lemmas.Bool.{and_parts}
 use Rattle.proof_steps.specs.Numbers.{has}
 use Rattle.proof_steps.specs.Rules.{is_short, is_valid}
@@ -108,3 +108,8 @@ none-is None true e = refl
 none-is None false e = absurd (let h : false ≡ true = e in cc)
 none-is (Some x) true e = absurd (let h : true ≡ false = e in cc)
 none-is (Some x) false e = refl
+
+-- what holds of every version, of one
+pub at-version : {A E : Type 0} (x : Result A E) (P : ℕ → A → Type 0) (version : ℕ) → IfOk x (λ a. (v : ℕ) → P v a) → IfOk x (λ a. P version a)
+at-version (Ok a) P version h = h version
+at-version (Err e) P version h = h

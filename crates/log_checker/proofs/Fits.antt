@@ -68,6 +68,7 @@ inner-step : (x : Step) → IsInner (step_line x)
 inner-step (step.Drop i) s part = refl
 inner-step (step.Red g f m r) s part = refl
 inner-step (step.Tail f r) s part = refl
+inner-step (step.Cancel g q r) s part = refl
 
 inner-status : (x : LeafStatus) → IsInner (status_line x)
 inner-status status.Proved s part = refl
@@ -79,8 +80,10 @@ inner-lists p = inner-append (map line.Eq p.eqs) (map line.Ne p.nes) (inner-map 
 
 inner-outcome : (p : Piece) (x : Outcome) → AreInner (outcome_lines p x)
 inner-outcome p (outcome.Split f initial) = ((λ s part. refl), tt)
+inner-outcome p (outcome.Factor f v) = ((λ s part. refl), tt)
 inner-outcome p (outcome.Close i) = ((λ s part. refl), tt)
 inner-outcome p (outcome.Clash i j) = ((λ s part. refl), tt)
+inner-outcome p (outcome.Void j f) = ((λ s part. refl), tt)
 inner-outcome p (outcome.System chain t) = ((λ s part. refl), inner-append (list_lines p) _ (inner-lists p) (inner-append (map line.Chain chain) (status_line t ∷ []) (inner-map line.Chain chain (λ x s part. refl)) (inner-status t, tt)))
 inner-outcome p (outcome.Open reason what) = ((λ s part. refl), inner-lists p)
 

@@ -6,10 +6,10 @@ use Rattle.poly_model.specs.Polynomial.{Polynomial}
 use Rattle.poly_model.specs.Reduction.{same, is_nonzero_constant, primitive_initial}
 use Rattle.proof_steps.specs.Numbers.{item, has}
 use Rattle.proof_steps.specs.Reasons.{same_reason}
-use Rattle.proof_steps.specs.Rules.{is_valid, is_triangular, size_of, made, reason_of, stepped}
+use Rattle.proof_steps.specs.Rules.{is_valid, is_void, is_triangular, depth_limit, factor_children, size_of, made, reason_for, reason_of, stepped}
 use Rattle.proof_steps.specs.Chain as chain
 use Rattle.proof_steps.specs.Chain.{Due, due_of, reducing_class, first_of_class, chain_reason, is_step, step_due, chain_fits, status_fits}
-use Rattle.proof_steps.specs.Trees.{step_fits, after_steps, same_path, same_list, lists, lists_none, outcome_fits, children, follow, follow_at}
+use Rattle.proof_steps.specs.Trees.{may_factor, step_fits, after_steps, same_path, same_list, lists, lists_none, outcome_fits, children, follow, follow_at}
 use Rattle.proof_steps.specs.declared.piece.Node.{Node}
 use Rattle.proof_steps.specs.declared.piece.Piece.{Piece}
 use Rattle.proof_steps.specs.declared.piece.ChainStep.{ChainStep}
@@ -75,6 +75,7 @@ unfolding in_piece
 step_reads version cons n (step.Drop i) = refl
 step_reads version cons n (step.Red g f m r) = refl
 step_reads version cons n (step.Tail f r) = refl
+step_reads version cons n (step.Cancel g q r) = refl
 
 abbrev node_after : Option Node → Option Inside
 node_after None = None
@@ -286,6 +287,10 @@ unfolding in_piece
 outcome_read version cons n p (outcome.Split f initial) w =
     by_one version cons n (line.Split f initial)
     ∙ alone3 (is_valid version n (attempt.Split f) && same_reason (reason_of version n (attempt.Split f)) None) (same initial (primitive_initial (item n.eqs f))) (lists_none p) (made version n (attempt.Split f)) (Parts initial) (none_listed p w)
+outcome_read version cons n p (outcome.Factor f v) w =
+    by_one version cons n (line.Factor f v)
+    ∙ alone (may_factor version n f v && same_reason (reason_for (depth_limit n) (factor_children n f v)) None) (lists_none p) (factor_children n f v) (Parts v) (none_listed p w)
+outcome_read version cons n p (outcome.Void j f) w = by_one version cons n (line.Void j f) ∙ alone (is_void version n j f) (lists_none p) [] Empty (none_listed p w)
 outcome_read version cons n p (outcome.Close i) w = by_one version cons n (line.Close i) ∙ alone (has n.eqs i && is_nonzero_constant (item n.eqs i)) (lists_none p) [] Empty (none_listed p w)
 outcome_read version cons n p (outcome.Clash i j) w = by_one version cons n (line.Clash i j) ∙ alone (has n.eqs i && (has n.nes j && same (item n.eqs i) (item n.nes j))) (lists_none p) [] Empty (none_listed p w)
 outcome_read version cons n p (outcome.System cs s) w =
@@ -374,6 +379,9 @@ written_here cons cs (status.Unreduced j reason f) t = tt
 
 outcome_written : (version : ℕ) (cons : List Polynomial) (n : Node) (p : Piece) (x : Outcome) → outcome_fits version cons n p x ≡ true → OutcomeWritten cons p x
 outcome_written version cons n p (outcome.Split f initial) h = lists_none-is p (and_parts (same initial (primitive_initial (item n.eqs f))) _ (and_parts (is_valid version n (attempt.Split f) && same_reason (reason_of version n (attempt.Split f)) None) _ h).1).1
+outcome_written version cons n p (outcome.Factor f v) h =
+    lists_none-is p (and_parts (may_factor version n f v && same_reason (reason_for (depth_limit n) (factor_children n f v)) None) _ h).1
+outcome_written version cons n p (outcome.Void j f) h = lists_none-is p (and_parts (is_void version n j f) _ h).1
 outcome_written version cons n p (outcome.Close i) h = lists_none-is p (and_parts (has n.eqs i && is_nonzero_constant (item n.eqs i)) _ h).1
 outcome_written version cons n p (outcome.Clash i j) h = lists_none-is p (and_parts (has n.eqs i && (has n.nes j && same (item n.eqs i) (item n.nes j))) _ h).1
 outcome_written version cons n p (outcome.System cs s) h =

@@ -17,9 +17,12 @@ unfolding in_piece
 ended-none version cons ms e (line.Drop j) = refl
 ended-none version cons ms e (line.Red g f m r) = refl
 ended-none version cons ms e (line.Tail f r) = refl
+ended-none version cons ms e (line.Cancel g q r) = refl
 ended-none version cons ms e (line.Split f initial) = refl
+ended-none version cons ms e (line.Factor f v) = refl
 ended-none version cons ms e (line.Close j) = refl
 ended-none version cons ms e (line.Clash j k) = refl
+ended-none version cons ms e (line.Void j f) = refl
 ended-none version cons ms e line.System = refl
 ended-none version cons ms e (line.Open reason what) = refl
 ended-none version cons ms e (line.Chain c) = refl

@@ -4,6 +4,8 @@ mod Terms
 mod Nodes
 mod Trying
 mod Fitness
+mod Divided
+mod Excluding
 pub mod Inside
 pub mod Fits
 mod Running

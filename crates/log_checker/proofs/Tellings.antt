@@ -60,6 +60,7 @@ step-silent : (s : Step) → IsSilent (step_line s)
 step-silent (step.Drop i) g = refl
 step-silent (step.Red i f m r) g = refl
 step-silent (step.Tail f r) g = refl
+step-silent (step.Cancel i q r) g = refl
 
 status-silent : (s : LeafStatus) → IsSilent (status_line s)
 status-silent status.Proved g = refl
@@ -71,8 +72,10 @@ lists-silent p = silent-append (map line.Eq p.eqs) (map line.Ne p.nes) (silent-m
 
 outcome-silent : (p : Piece) (o : Outcome) → AreSilent (outcome_lines p o)
 outcome-silent p (outcome.Split f initial) = ((λ g. refl), tt)
+outcome-silent p (outcome.Factor f v) = ((λ g. refl), tt)
 outcome-silent p (outcome.Close i) = ((λ g. refl), tt)
 outcome-silent p (outcome.Clash i j) = ((λ g. refl), tt)
+outcome-silent p (outcome.Void j f) = ((λ g. refl), tt)
 outcome-silent p (outcome.System chain s) = (
   (λ g. refl),
   silent-append (list_lines p) (map line.Chain chain ++ status_line s ∷ []) (lists-silent p)

@@ -23,7 +23,7 @@ pub first-class : (xs : List Term) (d : Term) → (length xs == 0) ≡ false →
 first-class [] d some e = cc
 first-class (x ∷ xs) d some e = class-of_first MOST_VARIABLES (x ∷ xs) x (λ none. omega (arith, none)) refl (within-of (polynomial_of (x ∷ xs)) e).descending
 
-one-more : (n : ℕ) → (suc n == 0) ≡ false
+pub one-more : (n : ℕ) → (suc n == 0) ≡ false
 one-more n = grind (arith, nat_tests)
 
 pub zero-tells : (xs : List Term) → is_standard (polynomial_of xs) ≡ true → (length xs == 0) ≡ is_zero (polynomial_of xs)

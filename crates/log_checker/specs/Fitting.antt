@@ -5,10 +5,10 @@ use Rattle.poly_model.specs.Reduction.{same, is_nonzero_constant, primitive_init
 use Rattle.proof_steps.specs.Numbers.{item, has}
 use Rattle.proof_steps.specs.Reasons.{same_reason}
 pub use Rattle.proof_steps.specs.Stated.{is_own_part}
-use Rattle.proof_steps.specs.Rules.{is_valid, is_triangular, size_of, made, reason_of, stepped}
+use Rattle.proof_steps.specs.Rules.{is_valid, is_void, is_triangular, depth_limit, factor_children, size_of, made, reason_for, reason_of, stepped}
 use Rattle.proof_steps.specs.Chain as chain
 use Rattle.proof_steps.specs.Chain.{Due, due_of, chain_reason, is_step}
-use Rattle.proof_steps.specs.Trees.{step_fits, same_path, same_list}
+use Rattle.proof_steps.specs.Trees.{may_factor, step_fits, same_path, same_list}
 use Rattle.proof_steps.specs.declared.piece.Node.{Node}
 use Rattle.proof_steps.specs.declared.piece.ChainStep.{ChainStep}
 use Rattle.proof_steps.specs.declared.step.Attempt.{Attempt}
@@ -58,11 +58,20 @@ split_row version n f initial =
     where_fits ((is_valid version n (attempt.Split f) && same_reason (reason_of version n (attempt.Split f)) None) && same initial (primitive_initial (item n.eqs f)))
     (listed (Ended (made version n (attempt.Split f)) (Parts initial)))
 
+-- A factor on any variable that divides.
+abbrev pub factor_row : (version : ℕ) → Node → ℕ → Polynomial → Option Inside
+factor_row version n f v =
+    where_fits (may_factor version n f v && same_reason (reason_for (depth_limit n) (factor_children n f v)) None)
+    (listed (Ended (factor_children n f v) (Parts v)))
+
 abbrev pub close_row : Node → ℕ → Option Inside
 close_row n i = where_fits (has n.eqs i && is_nonzero_constant (item n.eqs i)) (listed (Ended [] Empty))
 
 abbrev pub clash_row : Node → ℕ → ℕ → Option Inside
 clash_row n i j = where_fits (has n.eqs i && (has n.nes j && same (item n.eqs i) (item n.nes j))) (listed (Ended [] Empty))
+
+abbrev pub void_row : (version : ℕ) → Node → ℕ → ℕ → Option Inside
+void_row version n j f = where_fits (is_void version n j f) (listed (Ended [] Empty))
 
 abbrev pub system_row : (cons : List Polynomial) → Node → Option Inside
 system_row cons n = where_fits (is_triangular n.eqs n.nes) (record { eqs = n.eqs; nes = n.nes; work = Chaining n.eqs 1 cons (n.fuel - size_of n) })
@@ -137,9 +146,12 @@ unfoldable pub in_piece : (version : ℕ) → (cons : List Polynomial) → Insid
 in_piece version cons i (line.Drop j) = at_node i (λ n. step_row version n (step.Drop j))
 in_piece version cons i (line.Red g f m r) = at_node i (λ n. step_row version n (step.Red g f m r))
 in_piece version cons i (line.Tail f r) = at_node i (λ n. step_row version n (step.Tail f r))
+in_piece version cons i (line.Cancel g q r) = at_node i (λ n. step_row version n (step.Cancel g q r))
 in_piece version cons i (line.Split f initial) = at_node i (λ n. split_row version n f initial)
+in_piece version cons i (line.Factor f v) = at_node i (λ n. factor_row version n f v)
 in_piece version cons i (line.Close j) = at_node i (λ n. close_row n j)
 in_piece version cons i (line.Clash j k) = at_node i (λ n. clash_row n j k)
+in_piece version cons i (line.Void j f) = at_node i (λ n. void_row version n j f)
 in_piece version cons i line.System = at_node i (λ n. system_row cons n)
 in_piece version cons i (line.Open reason what) = at_node i (λ n. open_row version n reason what)
 in_piece version cons i (line.Chain c) = in_chain i (λ E fuel due. chain_row E fuel c due)
@@ -261,9 +273,12 @@ by_part s line.End part = Some s
 by_part s (line.Drop i) part = inside_row s (line.Drop i) part
 by_part s (line.Red g f m r) part = inside_row s (line.Red g f m r) part
 by_part s (line.Tail f r) part = inside_row s (line.Tail f r) part
+by_part s (line.Cancel g q r) part = inside_row s (line.Cancel g q r) part
 by_part s (line.Split f initial) part = inside_row s (line.Split f initial) part
+by_part s (line.Factor f v) part = inside_row s (line.Factor f v) part
 by_part s (line.Close i) part = inside_row s (line.Close i) part
 by_part s (line.Clash i j) part = inside_row s (line.Clash i j) part
+by_part s (line.Void j f) part = inside_row s (line.Void j f) part
 by_part s line.System part = inside_row s line.System part
 by_part s (line.Chain c) part = inside_row s (line.Chain c) part
 by_part s line.Proved part = inside_row s line.Proved part

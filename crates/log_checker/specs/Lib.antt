@@ -12,3 +12,4 @@ pub mod Checkers
 pub mod Checked
 pub mod Pieces
 pub mod Against
+pub mod Excluded

@@ -1,13 +1,16 @@
 -- What the trial of a rule at a node answers, and the calls that it is made of.
-use Rattle.std.specs.Prelude.{◌≡◌, ℕ, suc, ℤ, ◌&&◌, not, Bool, true, false, IsTrue, List, Option, Some, None, Result, Ok, Err}
+use Rattle.std.specs.Prelude.{◌≡◌, ◌≢◌, ◌<◌, length, is_none, ℕ, suc, ℤ, ◌&&◌, not, Bool, true, false, IsTrue, List, [], ◌∷◌, Option, Some, None, Result, Ok, Err}
+use Rattle.std.specs.List.{list_any}
 use Rattle.std.specs.Ordering.{int_eq}
 use Rattle.poly_model.specs.Polynomial.{Polynomial}
+use Rattle.poly_model.specs.Powers.{has_factor}
 use Rattle.poly_model.specs.Reasons.{reason_of}
 use Rattle.poly_model.specs.Reduction.{class_of, is_constant, reaches, reduction_of, same}
 use Rattle.poly_model.specs.declared.limits.Limit.{Limit}
+use Rattle.poly_model.specs.declared.limits.TheConstants.{MOST_LETTERS}
 use Rattle.proof_steps.specs.Reasons.{same_reason}
 use Rattle.proof_steps.specs.Numbers.{item}
-use Rattle.proof_steps.specs.Rules.{has_known_initial, is_valid, reduction_limit}
+use Rattle.proof_steps.specs.Rules.{has_known_initial, is_short, is_valid, least_variable, reduction_limit}
 use Rattle.proof_steps.specs.declared.piece.Node.{Node}
 use Rattle.proof_steps.specs.declared.step.Attempt.TheVariants as attempt
 use Rattle.poly_model.specs.declared.limits.Reason.{Reason}
@@ -54,3 +57,26 @@ pub record IsRedPair (version : ℕ) (n : Node) (g f : ℕ) (p q : Polynomial) (
 abbrev pub Stops : (valid : Bool) → (reason : Option Reason) → Option (Option Reason) → Type 0
 Stops valid reason None = valid ≡ false
 Stops valid reason (Some met) = (valid ≡ true) × (reason ≡ met)
+
+-- The two children that are made, where both have fuel for their sizes.
+abbrev pub AreChildren : List Node → Option (Node × Node) → Type 0
+AreChildren nodes None = list_any is_short nodes ≡ true
+AreChildren nodes (Some pair) = (list_any is_short nodes ≡ false) × (nodes ≡ pair.0 ∷ pair.1 ∷ [])
+
+-- The g-th equation of a node, p, and its q-th condition, by, where a cancel is valid.
+pub record IsCancelPair (version : ℕ) (n : Node) (g q : ℕ) (p by : Polynomial) : Type 0 where
+  pub valid : is_valid version n (attempt.Cancel g q) ≡ true
+  pub equation : p ≡ item n.eqs g
+  pub condition : by ≡ item n.nes q
+  pub one : length by ≡ 1
+  pub some : p ≢ []
+
+-- The least variable on which a node can be parted at an equation, where its path can have one letter more.
+pub record IsLeastFactor (n : Node) (f : ℕ) (v : Polynomial) : Type 0 where
+  pub least : v ≡ least_variable (item n.eqs f)
+  pub factor : has_factor (item n.eqs f) v ≡ true
+  pub letters : length n.path < MOST_LETTERS
+
+-- The reduction of g by f meets no limit and leaves 0.
+abbrev pub leaves_nothing : Polynomial → Polynomial → Bool
+leaves_nothing g f = is_none (reduction_limit g f) && same (reduction_of g f).1 []

@@ -1,11 +1,12 @@
 // Arithmetic on owned polynomials, by way of lists in a store that are given up again.
-ghost use Rattle.std.specs.Prelude.{◌≡◌, ◌≤◌, ◌+◌, ◌&&◌, IfOk, OnOk, IsTrue, suc, length, false};
+ghost use Rattle.std.specs.Prelude.{◌≡◌, ◌≢◌, ◌≤◌, ◌<◌, ◌+◌, ◌&&◌, IfOk, OnOk, IsTrue, suc, length, [], false};
 ghost use Rattle.std.specs.Ordering.{int_eq};
 ghost use Rattle.std.specs.FinMap.{remove};
 ghost use Rattle.poly_model.specs.Content.{primitive_part};
 ghost use Rattle.poly_model.specs.Reduction.{same, is_constant, class_of, reaches, primitive_initial, primitive_tail};
 ghost use Rattle.poly_model.specs.Bounded.{bounded_reduction};
-ghost use Rattle.poly_model.specs.declared.limits.TheConstants.{ROW_UNITS, STEP_UNITS, ARITH_UNITS};
+ghost use Rattle.poly_model.specs.Powers.{stripped, without_variables};
+ghost use Rattle.poly_model.specs.declared.limits.TheConstants.{ROW_UNITS, STEP_UNITS, ARITH_UNITS, MOST_VARIABLES};
 ghost use Rattle.term_store.specs.States.{IsLive, list_at};
 ghost use Rattle.term_store.specs.Changes.{Keeps};
 ghost use Rattle.polynomials.specs.Held.{IsPoly, polynomial_at, slot_of};
@@ -14,10 +15,11 @@ ghost use Rattle.log_checker.specs.Trials.{Reduced, gives, reduces_to};
 ghost use Rattle.log_checker.specs.Fitting.{is_own_part};
 
 use poly_model::{Limit, OwnedPoly, ROW_UNITS};
-use polynomials::{Poly, copy_in, copy_out, initial, prim, same, tail};
+use polynomials::{Poly, copy_in, copy_out, initial, prim, same, strip, tail};
 use pseudo_div::red_step;
 use std::alloc::{AllocError, Global};
 use term_store::TermStore;
+use workbench::without_variables;
 
 /// Makes room for what a reduction wants.
 fn make_room<S: TermStore>(s: &mut S) -> Result<(), AllocError>
@@ -126,6 +128,48 @@ pub fn tail_part<S: TermStore>(
     let held = copy_in(s, p);
     let whole = tail(s, held);
     let out = part_out(alloc, s, whole);
+    give_up(s, held);
+    out
+}
+
+/// The polynomial, which is not 0, divided by the greatest power of a variable that divides it.
+pub fn stripped_out<S: TermStore>(
+    alloc: Global,
+    s: &mut S,
+    p: &OwnedPoly,
+    var: u8,
+) -> Result<OwnedPoly, AllocError>
+    requires some { p.now ≢ [] }
+    requires var { var < MOST_VARIABLES }
+    ensures lists { (S.state s.new).lists ≡ (S.state s.old).lists }
+    ensures ok { IfOk result (λ q. q ≡ stripped var p.now) }
+{
+    make_room(s)?;
+    let held = copy_in(s, p);
+    let part = strip(s, held, var);
+    let out = taken_out(alloc, s, part);
+    give_up(s, held);
+    out
+}
+
+/// The polynomial, which is not 0, without the variables of one of one term.
+pub fn cancelled_out<S: TermStore>(
+    alloc: Global,
+    s: &mut S,
+    q: &OwnedPoly,
+    p: &OwnedPoly,
+) -> Result<OwnedPoly, AllocError>
+    requires one { length q.now ≡ 1 }
+    requires some { p.now ≢ [] }
+    ensures lists { (S.state s.new).lists ≡ (S.state s.old).lists }
+    ensures ok { IfOk result (λ r. r ≡ without_variables q.now p.now) }
+{
+    make_room(s)?;
+    let held = copy_in(s, p);
+    let by = copy_in(s, q);
+    let part = without_variables(s, by, held);
+    let out = taken_out(alloc, s, part);
+    give_up(s, by);
     give_up(s, held);
     out
 }

@@ -282,7 +282,8 @@ impl LineChecker {
         let Part::Within(path, inside) = mem::replace(&mut self.part, Part::Between) else {
             return Ok(false);
         };
-        let next = line_within(self.alloc, &mut self.store, &self.cons, inside, line)?;
+        let (version, alloc) = (self.version, self.alloc);
+        let next = line_within(version, alloc, &mut self.store, &self.cons, inside, line)?;
         let Some(inside) = next else {
             return Ok(false);
         };
@@ -309,9 +310,12 @@ impl LineChecker {
             LogLine::Drop(_)
             | LogLine::Red { .. }
             | LogLine::Tail { .. }
+            | LogLine::Cancel { .. }
             | LogLine::Split { .. }
+            | LogLine::Factor { .. }
             | LogLine::Close(_)
             | LogLine::Clash(_, _)
+            | LogLine::Void(_, _)
             | LogLine::System
             | LogLine::Chain(_)
             | LogLine::Proved

@@ -24,10 +24,14 @@ mod rows;
 mod rules;
 mod tally;
 mod triangular;
+mod variables;
 mod within;
 
 pub use against::check_against;
 pub use check::{check_log, check_text};
 pub use checking::Checked;
 pub use fault::CheckFault;
-pub use laws::{findings_are_unique, fitting_is_accepted, pieces_end_in_what_follows};
+pub use laws::{
+    findings_are_unique, fitting_is_accepted, pieces_end_in_what_follows,
+    rules_keep_their_conditions,
+};

@@ -8,10 +8,10 @@ ghost use Rattle.log_checker.specs.Fitting.{open_row};
 ghost use Rattle.log_checker.specs.Trials.{Stops};
 ghost use Rattle.log_checker.specs.Views.{inside_views};
 
-use crate::children::{children, copies};
+use crate::children::{children, copies, factor_children};
 use crate::node::{with_equation, with_fuel, without};
 use crate::piece::{Inside, Lists};
-use crate::rules::{Trial, may_drop, try_red, try_split, try_tail};
+use crate::rules::{Trial, may_drop, try_cancel, try_factor, try_red, try_split, try_tail};
 use poly_model::{Reason, Row};
 use proof_steps::{Attempt, Node};
 use std::alloc::{AllocError, Global};
@@ -39,11 +39,16 @@ fn shortage(short: bool) -> Option<Reason>
 }
 
 /// What stops a drop, where it is valid.
-fn drop_reason(alloc: Global, node: &Node, i: u16) -> Result<Option<Option<Reason>>, AllocError>
-    ensures { IfOk result (λ o. (version : ℕ) → Stops (is_valid version node.now (attempt.Drop i))
+fn drop_reason(
+    version: u8,
+    alloc: Global,
+    node: &Node,
+    i: u16,
+) -> Result<Option<Option<Reason>>, AllocError>
+    ensures { IfOk result (λ o. Stops (is_valid version node.now (attempt.Drop i))
         (reason_of version node.now (attempt.Drop i)) o) }
 {
-    if !may_drop(node, i) {
+    if !may_drop(version, node, i) {
         return Ok(None);
     }
     let made = with_fuel(without(copied(alloc, node)?, i));
@@ -111,21 +116,67 @@ fn split_reason<S: TermStore>(
     }
 }
 
+/// What stops a cancel, where it is valid.
+fn cancel_reason<S: TermStore>(
+    version: u8,
+    alloc: Global,
+    s: &mut S,
+    node: &Node,
+    g: u16,
+    q: u16,
+) -> Result<Option<Option<Reason>>, AllocError>
+    ensures { IfOk result (λ o. Stops (is_valid version node.now (attempt.Cancel g q))
+        (reason_of version node.now (attempt.Cancel g q)) o) }
+{
+    match try_cancel(version, alloc, s, node, g, q)? {
+        None => Ok(None),
+        Some(rest) => {
+            let made = with_fuel(with_equation(copied(alloc, node)?, g, rest));
+            Ok(Some(shortage(made.is_none())))
+        }
+    }
+}
+
+/// What stops a factor, where it is valid.
+fn factor_reason<S: TermStore>(
+    version: u8,
+    alloc: Global,
+    s: &mut S,
+    node: &Node,
+    f: u16,
+) -> Result<Option<Option<Reason>>, AllocError>
+    ensures { IfOk result (λ o. Stops (is_valid version node.now (attempt.Factor f))
+        (reason_of version node.now (attempt.Factor f)) o) }
+{
+    match try_factor(version, alloc, node, f)? {
+        Trial::Invalid => Ok(None),
+        Trial::Stopped(reason) => Ok(Some(Some(reason))),
+        Trial::Gives(v) => {
+            let copy = copied(alloc, node)?;
+            let made = factor_children(alloc, s, copy, f, v)?;
+            Ok(Some(shortage(made.is_none())))
+        }
+    }
+}
+
 /// What stops a rule, where it is valid.
 fn reason_for<S: TermStore>(
+    version: u8,
     alloc: Global,
     s: &mut S,
     node: &Node,
     what: Attempt,
 ) -> Result<Option<Option<Reason>>, AllocError>
-    ensures { IfOk result (λ o. (version : ℕ) → Stops (is_valid version node.now what)
+    ensures { IfOk result (λ o. Stops (is_valid version node.now what)
         (reason_of version node.now what) o) }
 {
     match what {
-        Attempt::Drop(i) => drop_reason(alloc, node, i),
+        Attempt::Drop(i) => drop_reason(version, alloc, node, i),
         Attempt::Red(g, f) => red_reason(alloc, s, node, g, f),
         Attempt::Tail(f) => tail_reason(alloc, s, node, f),
+        Attempt::Cancel(g, q) => cancel_reason(version, alloc, s, node, g, q),
         Attempt::Split(f) => split_reason(alloc, s, node, f),
+        Attempt::Factor(f) => factor_reason(version, alloc, s, node, f),
     }
 }
 
@@ -153,15 +204,16 @@ pub fn is_met(met: Option<Reason>, told: Reason) -> bool
 
 /// Where the piece stands behind a line `open`, if it fits.
 pub fn open_row<S: TermStore>(
+    version: u8,
     alloc: Global,
     s: &mut S,
     node: Node,
     told: Reason,
     what: Attempt,
 ) -> Result<Option<Inside>, AllocError>
-    ensures { IfOk result (λ o. (version : ℕ) → inside_views o ≡ open_row version node told what) }
+    ensures { IfOk result (λ o. inside_views o ≡ open_row version node told what) }
 {
-    let Some(met) = reason_for(alloc, s, &node, what)? else {
+    let Some(met) = reason_for(version, alloc, s, &node, what)? else {
         return Ok(None);
     };
     if !is_met(met, told) {

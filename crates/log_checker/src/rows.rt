@@ -4,27 +4,27 @@ ghost use Rattle.poly_model.specs.Polynomial.{Polynomial};
 ghost use Rattle.proof_steps.specs.Rules.{stepped};
 ghost use Rattle.proof_steps.specs.Trees.{step_fits};
 ghost use Rattle.proof_steps.specs.declared.step.Step.TheVariants as step;
-ghost use Rattle.log_checker.specs.Fitting.{where_fits, split_row, close_row, clash_row, system_row, open_row};
+ghost use Rattle.log_checker.specs.Fitting.{where_fits, split_row, factor_row, close_row, clash_row, void_row, system_row, open_row};
 ghost use Rattle.log_checker.specs.Views.{inside_view, inside_views};
 
-use crate::children::{children, copies};
+use crate::children::{children, copies, factor_children};
 use crate::ending::Ending;
 use crate::node::{fuel_beside, with_equation, with_fuel, without};
 use crate::piece::{Inside, Lists, System};
 use crate::reads::{classes_of, is_number, numbered};
-use crate::rules::{Trial, is_red, may_drop, try_split, try_tail};
+use crate::rules::{Trial, is_red, is_void, may_drop, may_factor, try_cancel, try_split, try_tail};
 use crate::triangular::is_triangular;
-use poly_model::{OwnedPoly, Row};
+use poly_model::{MOST_LETTERS, OwnedPoly, Row};
 use proof_steps::Node;
 use std::alloc::{AllocError, Global};
 use term_store::TermStore;
 
 /// The node behind a line `drop`, if it fits.
-pub fn drop_row(node: Node, i: u16) -> Option<Node>
-    ensures { (version : ℕ)
-        → result ≡ where_fits (step_fits version node (step.Drop i)) (stepped node (step.Drop i)) }
+pub fn drop_row(version: u8, node: Node, i: u16) -> Option<Node>
+    ensures { result
+        ≡ where_fits (step_fits version node (step.Drop i)) (stepped node (step.Drop i)) }
 {
-    if may_drop(&node, i) {
+    if may_drop(version, &node, i) {
         with_fuel(without(node, i))
     } else {
         None
@@ -71,6 +71,28 @@ pub fn tail_row<S: TermStore>(
     Ok(with_fuel(with_equation(node, f, tail)))
 }
 
+/// The node behind a line `cancel`, if it fits.
+pub fn cancel_row<S: TermStore>(
+    version: u8,
+    alloc: Global,
+    s: &mut S,
+    node: Node,
+    g: u16,
+    q: u16,
+    r: OwnedPoly,
+) -> Result<Option<Node>, AllocError>
+    ensures { IfOk result (λ o. o ≡ where_fits (step_fits version node (step.Cancel g q r))
+        (stepped node (step.Cancel g q r))) }
+{
+    let Some(rest) = try_cancel(version, alloc, s, &node, g, q)? else {
+        return Ok(None);
+    };
+    if r != rest {
+        return Ok(None);
+    }
+    Ok(with_fuel(with_equation(node, g, rest)))
+}
+
 /// Where the piece stands behind a line `split`, if it fits.
 pub fn split_row<S: TermStore>(
     alloc: Global,
@@ -97,6 +119,27 @@ pub fn split_row<S: TermStore>(
     }
 }
 
+/// Where the piece stands behind a line `factor`, if it fits.
+pub fn factor_row<S: TermStore>(
+    version: u8,
+    alloc: Global,
+    s: &mut S,
+    node: Node,
+    f: u16,
+    v: OwnedPoly,
+) -> Result<Option<Inside>, AllocError>
+    ensures { IfOk result (λ o. inside_views o ≡ factor_row version node f v) }
+{
+    if !may_factor(version, &node, f, &v) || node.path.len() == MOST_LETTERS {
+        return Ok(None);
+    }
+    let gain = v.copy(alloc)?;
+    match factor_children(alloc, s, node, f, v)? {
+        Some((plus, minus)) => Ok(Some(Inside::Parted { plus, minus, gain })),
+        None => Ok(None),
+    }
+}
+
 /// Where the piece stands behind a line `close`, if it fits.
 pub fn close_row(node: Node, i: u16) -> Option<Inside>
     ensures { inside_views result ≡ close_row node i }
@@ -119,6 +162,24 @@ pub fn clash_row(node: Node, i: u16, j: u16) -> Option<Inside>
         Some(Inside::Ended(Ending::Empty))
     } else {
         None
+    }
+}
+
+/// Where the piece stands behind a line `void`, if it fits.
+pub fn void_row<S: TermStore>(
+    version: u8,
+    alloc: Global,
+    s: &mut S,
+    node: Node,
+    j: u16,
+    f: u16,
+) -> Result<Option<Inside>, AllocError>
+    ensures { IfOk result (λ o. inside_views o ≡ void_row version node j f) }
+{
+    if is_void(version, alloc, s, &node, j, f)? {
+        Ok(Some(Inside::Ended(Ending::Empty)))
+    } else {
+        Ok(None)
     }
 }
 

@@ -1,19 +1,23 @@
 // Which rules are valid at a node, and what they give there.
 ghost use Rattle.std.specs.Prelude.{◌≡◌, ◌<◌, ◌-◌, length, ◌&&◌, ◌||◌, not, suc, take, ℕ, Option, Some, None, Result, Ok, Err, IfOk, MatchOption, IsTrue, true, false};
 ghost use Rattle.poly_model.specs.Reduction.{class_of, reaches, is_constant, is_zero, has_polynomial, primitive_initial, primitive_tail, reduction_of};
+ghost use Rattle.poly_model.specs.Powers.{without_variables};
 ghost use Rattle.poly_model.specs.declared.limits.TheConstants.{MOST_LETTERS};
 ghost use Rattle.proof_steps.specs.Numbers.{item, has};
-ghost use Rattle.proof_steps.specs.Rules.{has_known_initial, is_valid, limit_of};
-ghost use Rattle.proof_steps.specs.declared.step.Attempt.TheVariants.{Drop, Red, Tail, Split};
-ghost use Rattle.log_checker.specs.Trials.{Tries, Divides, IsRedPair, reduces_to};
+ghost use Rattle.proof_steps.specs.Rules.{has_known_initial, is_valid, is_void, limit_of};
+ghost use Rattle.proof_steps.specs.Trees.{may_factor};
+ghost use Rattle.proof_steps.specs.declared.step.Attempt.TheVariants.{Drop, Red, Tail, Cancel, Split, Factor};
+ghost use Rattle.log_checker.specs.Trials.{Tries, Divides, IsCancelPair, IsLeastFactor, IsRedPair, leaves_nothing, reduces_to};
 
-use crate::arith::{initial_part, reduces_to, reduction, tail_part};
+use crate::arith::{cancelled_out, initial_part, reduces_to, reduction, tail_part};
 use crate::node::{is_known, reaches};
 use crate::reads::{class_number, is_member, is_zero, numbered};
+use crate::variables::{cancels, has_factor, is_multiple};
 use poly_model::{MOST_LETTERS, OwnedPoly, Reason};
-use proof_steps::Node;
+use proof_steps::{Node, has_second};
 use std::alloc::{AllocError, Global};
 use term_store::TermStore;
+use workbench::{factor_number, variable_of};
 
 /// What a rule comes to: it is not valid, a limit stops it, or it gives a result.
 #[derive(Debug, Drop)]
@@ -23,15 +27,16 @@ pub enum Trial<T> {
     Gives(T),
 }
 
-/// The i-th equation is 0, or one of those before it.
-pub fn may_drop(node: &Node, i: u16) -> bool
-    ensures { (version : ℕ) → result ≡ is_valid version node.now (Drop i) }
+/// The i-th equation is 0, or one of those before it, or in the second version another one is a variable that divides it.
+pub fn may_drop(version: u8, node: &Node, i: u16) -> bool
+    ensures { result ≡ is_valid version node.now (Drop i) }
 {
     let eqs = node.eqs.as_slice();
     let Some(p) = numbered(eqs, i) else {
         return false;
     };
-    is_zero(p) || is_member(&eqs[..i as usize - 1], p)
+    (is_zero(p) || is_member(&eqs[..i as usize - 1], p))
+        || (has_second(version) && is_multiple(eqs, p))
 }
 
 /// The place of the greatest variable of f, where its initial is known and g reaches its degree.
@@ -181,4 +186,123 @@ pub fn try_split<S: TermStore>(
     }
     let initial = initial_part(alloc, s, p)?;
     Ok(Trial::Gives(initial))
+}
+
+/// The g-th equation and the q-th condition, where the variables of the condition may be divided out of the equation.
+fn cancel_pair(version: u8, node: &Node, g: u16, q: u16) -> Option<(&OwnedPoly, &OwnedPoly)>
+    ensures { MatchOption result (is_valid version node.now (Cancel g q) ≡ false)
+        (λ pair. IsCancelPair version node.now g q pair.0.now pair.1.now) }
+{
+    if !has_second(version) {
+        return None;
+    }
+    let p = numbered(node.eqs.as_slice(), g)?;
+    let by = numbered(node.nes.as_slice(), q)?;
+    if class_number(p) != 0 && cancels(by, p) {
+        Some((p, by))
+    } else {
+        None
+    }
+}
+
+/// The g-th equation without the variables of the q-th condition.
+pub fn try_cancel<S: TermStore>(
+    version: u8,
+    alloc: Global,
+    s: &mut S,
+    node: &Node,
+    g: u16,
+    q: u16,
+) -> Result<Option<OwnedPoly>, AllocError>
+    ensures { IfOk result
+        (λ o. MatchOption o (is_valid version node.now (Cancel g q) ≡ false)
+        (λ r. (is_valid version node.now (Cancel g q) ≡ true)
+        × (r ≡ without_variables (item node.now.nes q) (item node.now.eqs g)))) }
+{
+    let Some((p, by)) = cancel_pair(version, node, g, q) else {
+        return Ok(None);
+    };
+    let rest = cancelled_out(alloc, s, by, p)?;
+    Ok(Some(rest))
+}
+
+/// The node may be parted on a variable that divides the f-th equation.
+pub fn may_factor(version: u8, node: &Node, f: u16, v: &OwnedPoly) -> bool
+    ensures { result ≡ may_factor version node.now f v.now }
+{
+    match nonconstant(node, f) {
+        None => false,
+        Some(p) => has_second(version) && has_factor(p, v),
+    }
+}
+
+/// The least variable that the node may be parted on at the f-th equation.
+pub fn try_factor(
+    version: u8,
+    alloc: Global,
+    node: &Node,
+    f: u16,
+) -> Result<Trial<OwnedPoly>, AllocError>
+    ensures { IfOk result (λ t. Tries (is_valid version node.now (Factor f))
+        (limit_of version node.now (Factor f)) (IsLeastFactor node.now f) t) }
+{
+    let Some(p) = nonconstant(node, f) else {
+        return Ok(Trial::Invalid);
+    };
+    if !has_second(version) {
+        return Ok(Trial::Invalid);
+    }
+    let x = factor_number(p.terms(), class_number(p));
+    if x == 0 {
+        return Ok(Trial::Invalid);
+    }
+    if node.path.len() == MOST_LETTERS {
+        return Ok(Trial::Stopped(Reason::Depth));
+    }
+    let v = variable_of(alloc, x)?;
+    Ok(Trial::Gives(v))
+}
+
+/// The reduction of g by f in the variable at a place, the greatest of f, meets no limit and leaves nothing.
+fn leaves_nothing<S: TermStore>(
+    alloc: Global,
+    s: &mut S,
+    g: &OwnedPoly,
+    f: &OwnedPoly,
+    var: u8,
+) -> Result<bool, AllocError>
+    requires class { class_of f.now ≡ suc var }
+    requires reaches { IsTrue (reaches g.now f.now) }
+    ensures { IfOk result (λ nothing. nothing ≡ leaves_nothing g.now f.now) }
+{
+    match reduction(alloc, s, g, f, var)? {
+        Ok((_, rest)) => Ok(rest.terms().is_empty()),
+        Err(_) => Ok(false),
+    }
+}
+
+/// The j-th condition reduces to 0 by the f-th equation, whose initial is known.
+pub fn is_void<S: TermStore>(
+    version: u8,
+    alloc: Global,
+    s: &mut S,
+    node: &Node,
+    j: u16,
+    f: u16,
+) -> Result<bool, AllocError>
+    ensures { IfOk result (λ empty. empty ≡ is_void version node.now j f) }
+{
+    let Some(q) = numbered(node.nes.as_slice(), j) else {
+        return Ok(false);
+    };
+    let Some(p) = numbered(node.eqs.as_slice(), f) else {
+        return Ok(false);
+    };
+    if !has_second(version) || class_number(q) != class_number(p) {
+        return Ok(false);
+    }
+    match divisor(alloc, s, node.nes.as_slice(), q, p)? {
+        None => Ok(false),
+        Some(var) => leaves_nothing(alloc, s, q, p, var),
+    }
 }

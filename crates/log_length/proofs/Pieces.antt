@@ -30,6 +30,7 @@ step-all : (s : Step) → line_all (step_line s) ≡ term_most * step_cost s
 step-all (step.Drop i) = refl
 step-all (step.Red g f m r) = refl
 step-all (step.Tail f r) = refl
+step-all (step.Cancel g q r) = refl
 
 steps-all : (steps : List Step) → lines_all (map step_line steps) ≡ term_most * steps_cost steps
 steps-all [] = refl
@@ -54,6 +55,8 @@ lists-all p =
 -- with the line of the node
 outcome-all : (p : Piece) (x : Outcome) → head_most + lines_all (outcome_lines p x) ≤ term_most * outcome_cost p x
 outcome-all p (outcome.Split f initial) = omega arith
+outcome-all p (outcome.Factor f v) = omega arith
+outcome-all p (outcome.Void j f) = omega arith
 outcome-all p (outcome.Close i) = omega arith
 outcome-all p (outcome.Clash i j) = omega arith
 outcome-all p (outcome.System cs s) =

@@ -4,8 +4,10 @@ use Rattle.std.specs.Prelude.{nat_le, if◌then◌else◌}
 use Rattle.std.proofs.lemmas.Bool.{or_left, or_right, or_cases, and_parts}
 use Rattle.poly_model.specs.Polynomial.{Polynomial}
 use Rattle.poly_model.specs.Equality.{same-is, same-self}
-use Rattle.poly_model.specs.Reduction.{same, has_polynomial}
-use Rattle.proof_steps.specs.Rules.{sizes, size_of}
+use Rattle.poly_model.specs.Powers.{stripped}
+use Rattle.poly_model.specs.Reduction.{same, has_polynomial, main_place, primitive_initial, primitive_tail}
+use Rattle.proof_steps.specs.Numbers.{item, replaced}
+use Rattle.proof_steps.specs.Rules.{sizes, size_of, plus_child, minus_child}
 use Rattle.proof_steps.specs.Trees.{are_trees, children, root_of, is_tree_of}
 use Rattle.proof_steps.specs.declared.piece.LeafStatus.TheVariants as status
 use Rattle.proof_steps.specs.declared.piece.Node.{Node}
@@ -138,22 +140,40 @@ leaf-gains t path e true = by (leaves_some e)
 abbrev gained_by : Tally → Piece → Outcome → ℕ
 gained_by t p x = sizes (tally_after t p.path (ending_of x)).gains
 
-split-gains : (t : Tally) (p : Piece) (f : ℕ) (initial : Polynomial) → gained_by t p (outcome.Split f initial) ≤ sizes t.gains + outcome_cost p (outcome.Split f initial)
-split-gains t p f initial = by (has_minus p.path)
+parts-gains : (t : Tally) (path : List Bool) (gain : Polynomial) → sizes (tally_after t path (Parts gain)).gains ≤ sizes t.gains + (1 + length gain)
+parts-gains t path gain = by (has_minus path)
   where
-    by : (b : Bool) → sizes (if b then t else record t { gains = t.gains ++ initial ∷ [] }).gains ≤ sizes t.gains + (1 + length initial)
+    by : (b : Bool) → sizes (if b then t else record t { gains = t.gains ++ gain ∷ [] }).gains ≤ sizes t.gains + (1 + length gain)
     by true = omega arith
-    by false = let e = sizes-append t.gains initial in omega (arith, e)
+    by false = let e = sizes-append t.gains gain in omega (arith, e)
 
--- an outcome is a split, or a leaf
+-- an outcome parts its node in two, or is a leaf
+record IsPartingOf (t : Tally) (p : Piece) (x : Outcome) : Type 0 where
+  paid : gained_by t p x ≤ sizes t.gains + outcome_cost p x
+  two : (version : ℕ) (m : Node) → (plus : Node) × (minus : Node) × (children version m x ≡ plus ∷ minus ∷ [])
+
 record IsLeafOf (t : Tally) (p : Piece) (x : Outcome) : Type 0 where
   gains : gained_by t p x ≡ sizes t.gains
   cost : 4 ≤ outcome_cost p x
 
-leaf-costs : (t : Tally) (p : Piece) (x : Outcome) → ((f : ℕ) × ((initial : Polynomial) × (x ≡ outcome.Split f initial))) ⊎ IsLeafOf t p x
-leaf-costs t p (outcome.Split f initial) = inl (f, (initial, refl))
+leaf-costs : (t : Tally) (p : Piece) (x : Outcome) → IsPartingOf t p x ⊎ IsLeafOf t p x
+leaf-costs t p (outcome.Split f initial) = inl (record {
+  paid = parts-gains t p.path initial;
+  two = λ version m.
+      let J = primitive_initial (item m.eqs f) in
+      let rest = replaced m.eqs f (primitive_tail (item m.eqs f)) ++ J ∷ [] in
+      (plus_child m J m.eqs rest, minus_child m J rest, refl);
+})
+leaf-costs t p (outcome.Factor f v) = inl (record {
+  paid = parts-gains t p.path v;
+  two = λ version m.
+      let up = replaced m.eqs f (stripped (main_place v) (item m.eqs f)) in
+      let down = replaced m.eqs f v in
+      (plus_child m v up down, minus_child m v down, refl);
+})
 leaf-costs t p (outcome.Close i) = inr (record { gains = ap sizes (leaf-gains t p.path Empty (has_minus p.path)); cost = omega arith })
 leaf-costs t p (outcome.Clash i j) = inr (record { gains = ap sizes (leaf-gains t p.path Empty (has_minus p.path)); cost = omega arith })
+leaf-costs t p (outcome.Void j f) = inr (record { gains = ap sizes (leaf-gains t p.path Empty (has_minus p.path)); cost = omega arith })
 leaf-costs t p (outcome.System chain status.Proved) = inr (record { gains = ap sizes (leaf-gains t p.path Proves (has_minus p.path)); cost = omega arith })
 leaf-costs t p (outcome.System chain (status.Remainder k r)) = inr (record { gains = ap sizes (leaf-gains t p.path (Remains k r) (has_minus p.path)); cost = omega arith })
 leaf-costs t p (outcome.System chain (status.Unreduced k why f)) = inr (record { gains = ap sizes (leaf-gains t p.path (Stops why) (has_minus p.path)); cost = omega arith })
@@ -161,7 +181,7 @@ leaf-costs t p (outcome.Open why what) = inr (record { gains = ap sizes (leaf-ga
 
 one-paid : (t : Tally) (p : Piece) → gained_by t p p.outcome ≤ sizes t.gains + outcome_cost p p.outcome
 one-paid t p = elim (leaf-costs t p p.outcome) [
-  | inl s ↦ subst (λ x. gained_by t p x ≤ sizes t.gains + outcome_cost p x) (sym s.1.1) (split-gains t p s.0 s.1.0)
+  | inl s ↦ s.paid
   | inr l ↦ let e = l.gains in omega (arith, e)
 ]
 
@@ -183,8 +203,9 @@ leaf-paid version cons (p ∷ ps) n ns t h =
     elim (leaf-costs t p p.outcome) [
       | inl s ↦
           let a = one-paid t p in
-          let nodes : children version k.end (outcome.Split s.0 s.1.0) ≡ f.nodes = ap (children version k.end) (sym s.1.1) ∙ k.nodes in
-          let m = leaf-paid version cons ps _ _ u (ap (λ ms. are_trees version cons (ms ++ ns) ps) nodes ∙ f.trees) in
+          let w = s.two version k.end in
+          let nodes : w.0 ∷ w.1 ∷ [] ≡ f.nodes = sym w.2 ∙ k.nodes in
+          let m = leaf-paid version cons ps w.0 (w.1 ∷ ns) u (ap (λ ms. are_trees version cons (ms ++ ns) ps) nodes ∙ f.trees) in
           omega (arith, a, m)
       | inr l ↦
           let e = l.gains in

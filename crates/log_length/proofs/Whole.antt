@@ -7,6 +7,7 @@ use Rattle.poly_model.specs.Polynomial.{Polynomial}
 use Rattle.poly_model.specs.declared.limits.TheConstants.{MOST_TERMS}
 use Rattle.proof_steps.specs.Rules.{sizes, has_second}
 use Rattle.tree_laws.proofs.Paid.{trees-are-paid}
+use Rattle.tree_laws.proofs.Later.{trees-stay}
 use Rattle.verdicts.specs.declared.verdict.Verdict.{Verdict}
 use Rattle.verdicts.specs.declared.verdict.Verdict.TheVariants as verdict
 use Rattle.verdicts.specs.Verdicts.{under}
@@ -19,7 +20,7 @@ use Rattle.proof_log.specs.Lines.{heading_lines, piece_lines, proof_lines, proof
 use Rattle.proof_log.specs.Lengths.{term_most, head_most, names_most, verdict_most, lines_all}
 use Rattle.proof_log.specs.Accepted.{IsAcceptedProof, AreAccepted}
 use Rattle.assurance.proofs.Tally.{tally_tells}
-use Rattle.log_length.specs.Short.{HasFewTerms, HaveFewTerms, PiecesArePaid, ConditionsArePaid, AcceptedIsShort, stated_most}
+use Rattle.log_length.specs.Short.{HasFewTerms, HaveFewTerms, PiecesArePaid, ConditionsArePaid, AcceptedIsShort, AcceptedStays, stated_most}
 use Rattle.log_length.proofs.Pieces.{all-append, polys-all, pieces-all}
 use Rattle.log_length.proofs.Under.{conditions-cost}
 
@@ -122,3 +123,15 @@ log-short h log fuel a few small =
     let e = all-append (proofs_lines 1 log) (line.End ∷ []) in
     let t = heading-short h (line.Proves (length log) ∷ (proofs_lines 1 log ++ line.End ∷ [])) in
     omega (arith, m, d, e, few, t, fuel)
+
+-- ---- later versions
+proofs-stay : (version later fuel : ℕ) (log : List Proof) → version ≤ later → AreAccepted version fuel log → AreAccepted later fuel log
+unfolding AreAccepted
+proofs-stay version later fuel [] le a = tt
+proofs-stay version later fuel (p ∷ log) le a = (
+  record { hyps = a.0.hyps; cons = a.0.cons; tree = trees-stay version later le p.problem fuel p.tree.pieces a.0.tree; verdict = a.0.verdict },
+  proofs-stay version later fuel log le a.1,
+)
+
+pub accepted-stays : AcceptedStays
+accepted-stays version later fuel log le a = proofs-stay version later (fuel / length log) log le a

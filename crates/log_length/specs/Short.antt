@@ -10,7 +10,7 @@ use Rattle.proof_steps.specs.declared.problem.Problem.{Problem}
 use Rattle.proof_steps.specs.declared.problem.TheConstants.{MOST_CONCLUSION_TERMS, MOST_STATED_TERMS}
 use Rattle.verdicts.specs.Verdicts.{verdict_of}
 use Rattle.verdicts.specs.declared.verdict.Verdict.TheVariants as verdict
-use Rattle.proof_log.specs.Headings.{Heading}
+use Rattle.proof_log.specs.Headings.{Heading, heading}
 use Rattle.proof_log.specs.Lengths.{term_most, lines_all}
 use Rattle.proof_log.specs.Lines.{piece_lines, log_lines}
 use Rattle.proof_log.specs.declared.limits.TheConstants.{MOST_PROOFS}
@@ -44,3 +44,7 @@ ConditionsArePaid = (version : ℕ) (problem : Problem) (fuel : ℕ) (pieces : L
 abbrev pub AcceptedIsShort : Type 0
 AcceptedIsShort = (h : Heading) (log : List Proof) → h.fuel ≤ MOST_FUEL → IsAccepted h log → length log ≤ MOST_PROOFS → HaveFewTerms log
     → lines_all (log_lines h log) ≤ MOST_LOG_BYTES
+
+-- An accepted log is accepted in each later version, with the same fuel.
+abbrev pub AcceptedStays : Type 0
+AcceptedStays = (version later fuel : ℕ) (log : List Proof) → version ≤ later → IsAccepted (heading version fuel) log → IsAccepted (heading later fuel) log

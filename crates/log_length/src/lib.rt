@@ -3,4 +3,4 @@
 
 mod laws;
 
-pub use laws::accepted_logs_are_short;
+pub use laws::{accepted_logs_are_short, accepted_logs_stay_accepted};

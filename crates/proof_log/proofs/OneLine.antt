@@ -20,9 +20,9 @@ use Rattle.proof_log.specs.declared.line.LogLine.{LogLine}
 use Rattle.proof_log.specs.declared.line.LogLine.TheVariants as line
 use Rattle.proof_log.specs.declared.line.LineWord.{LineWord}
 use Rattle.proof_log.specs.declared.line.LineWord.TheVariants as word
-use Rattle.proof_log.specs.Text.{Field, Version, Amount, Proofs, Conclusion, Index, Multiplier, Letters, Why, fields_text, FitFields, Tail, Nothing, Poly, Names, Tried, Told, FitsPoly, FitPolys, attempt_word, attempt_fields, more_text, polys_text, verdict_text, names_text, tail_text, FitsVerdict, FitsTail, Row, row_of, word_text, line_text, IsLine}
+use Rattle.proof_log.specs.Text.{Field, Version, Amount, Proofs, Conclusion, Index, Multiplier, Letters, Why, fields_text, FitFields, Rest, Nothing, Poly, Names, Tried, Told, FitsPoly, FitPolys, attempt_word, attempt_fields, more_text, polys_text, verdict_text, names_text, rest_text, FitsVerdict, FitsRest, Row, row_of, word_text, line_text, IsLine}
 use Rattle.proof_log.proofs.Bytes.{EndsAt, cut, high, high-blank, decimal-high, poly-semicolon}
-use Rattle.proof_log.specs.Kinds.{kind_of, field_kinds, tail_kind_of, tail_kind}
+use Rattle.proof_log.specs.Kinds.{kind_of, field_kinds, rest_kind_of, rest_kind}
 use Rattle.proof_log.proofs.Fields.{fields-end, placed, same-fields, same-word, value, value-again, word-high}
 
 -- texts whose first bytes differ
@@ -30,31 +30,34 @@ apart : (a b : List ℕ) → a ≡ b → (get_or a 0 0 == get_or b 0 0) ≡ fals
 apart a b e differ = let h : get_or a 0 0 ≡ get_or b 0 0 = ap (λ l. get_or l 0 0) e in grind (arith, nat_tests)
 
 -- ---- the rest of a line
-pub tailed : (l : LogLine) → tail_kind_of (row_of l).tail ≡ tail_kind (row_of l).word
-tailed (line.Head v) = refl
-tailed (line.Fuel n) = refl
-tailed (line.Proves n) = refl
-tailed (line.Prove k) = refl
-tailed (line.Vars ns) = refl
-tailed (line.Hyp p) = refl
-tailed (line.Con p) = refl
-tailed (line.Node path) = refl
-tailed (line.Drop i) = refl
-tailed (line.Red g f m r) = refl
-tailed (line.Tail f r) = refl
-tailed (line.Split f r) = refl
-tailed (line.Close i) = refl
-tailed (line.Clash i j) = refl
-tailed line.System = refl
-tailed (line.Chain c) = refl
-tailed line.Proved = refl
-tailed (line.Remainder k) = refl
-tailed (line.Unreduced k why f) = refl
-tailed (line.Open why what) = refl
-tailed (line.Eq p) = refl
-tailed (line.Ne p) = refl
-tailed (line.Verdict v) = refl
-tailed line.End = refl
+pub rest_placed : (l : LogLine) → rest_kind_of (row_of l).rest ≡ rest_kind (row_of l).word
+rest_placed (line.Head v) = refl
+rest_placed (line.Fuel n) = refl
+rest_placed (line.Proves n) = refl
+rest_placed (line.Prove k) = refl
+rest_placed (line.Vars ns) = refl
+rest_placed (line.Hyp p) = refl
+rest_placed (line.Con p) = refl
+rest_placed (line.Node path) = refl
+rest_placed (line.Drop i) = refl
+rest_placed (line.Red g f m r) = refl
+rest_placed (line.Tail f r) = refl
+rest_placed (line.Cancel g q r) = refl
+rest_placed (line.Factor f r) = refl
+rest_placed (line.Void j f) = refl
+rest_placed (line.Split f r) = refl
+rest_placed (line.Close i) = refl
+rest_placed (line.Clash i j) = refl
+rest_placed line.System = refl
+rest_placed (line.Chain c) = refl
+rest_placed line.Proved = refl
+rest_placed (line.Remainder k) = refl
+rest_placed (line.Unreduced k why f) = refl
+rest_placed (line.Open why what) = refl
+rest_placed (line.Eq p) = refl
+rest_placed (line.Ne p) = refl
+rest_placed (line.Verdict v) = refl
+rest_placed line.End = refl
 
 pub same-poly : (names : List VarName) (p q : Polynomial) → are_variables names ≡ true → FitsPoly names p → FitsPoly names q → poly_text names p ≡ poly_text names q → p ≡ q
 same-poly names p q v f g e = same_text names p q (named names v) (all_fit names p (few names v) f.0 f.1) (all_fit names q (few names v) g.0 g.1) e
@@ -129,19 +132,43 @@ same-attempt (attempt.Red g f) (attempt.Red h k) p q e =
     let b : f ≡ k = cc in
     λ i. attempt.Red (a i) (b i)
 same-attempt (attempt.Tail i) (attempt.Tail j) p q e = ap attempt.Tail (index-same i j (fields-alone (Index i ∷ []) (Index j ∷ []) refl p q (ap (drop 4) e)))
+same-attempt (attempt.Cancel g f) (attempt.Cancel h k) p q e =
+    let l = fields-alone (Index g ∷ Index f ∷ []) (Index h ∷ Index k ∷ []) refl p q (ap (drop 6) e) in
+    let a : g ≡ h = cc in
+    let b : f ≡ k = cc in
+    λ i. attempt.Cancel (a i) (b i)
 same-attempt (attempt.Split i) (attempt.Split j) p q e = ap attempt.Split (index-same i j (fields-alone (Index i ∷ []) (Index j ∷ []) refl p q (ap (drop 5) e)))
+same-attempt (attempt.Factor i) (attempt.Factor j) p q e = ap attempt.Factor (index-same i j (fields-alone (Index i ∷ []) (Index j ∷ []) refl p q (ap (drop 6) e)))
 same-attempt (attempt.Drop i) (attempt.Red h k) p q e = absurd (apart _ _ e refl)
 same-attempt (attempt.Drop i) (attempt.Tail j) p q e = absurd (apart _ _ e refl)
+same-attempt (attempt.Drop i) (attempt.Cancel h k) p q e = absurd (apart _ _ e refl)
 same-attempt (attempt.Drop i) (attempt.Split j) p q e = absurd (apart _ _ e refl)
+same-attempt (attempt.Drop i) (attempt.Factor j) p q e = absurd (apart _ _ e refl)
 same-attempt (attempt.Red g f) (attempt.Drop j) p q e = absurd (apart _ _ e refl)
 same-attempt (attempt.Red g f) (attempt.Tail j) p q e = absurd (apart _ _ e refl)
+same-attempt (attempt.Red g f) (attempt.Cancel h k) p q e = absurd (apart _ _ e refl)
 same-attempt (attempt.Red g f) (attempt.Split j) p q e = absurd (apart _ _ e refl)
+same-attempt (attempt.Red g f) (attempt.Factor j) p q e = absurd (apart _ _ e refl)
 same-attempt (attempt.Tail i) (attempt.Drop j) p q e = absurd (apart _ _ e refl)
 same-attempt (attempt.Tail i) (attempt.Red h k) p q e = absurd (apart _ _ e refl)
+same-attempt (attempt.Tail i) (attempt.Cancel h k) p q e = absurd (apart _ _ e refl)
 same-attempt (attempt.Tail i) (attempt.Split j) p q e = absurd (apart _ _ e refl)
+same-attempt (attempt.Tail i) (attempt.Factor j) p q e = absurd (apart _ _ e refl)
+same-attempt (attempt.Cancel g f) (attempt.Drop j) p q e = absurd (apart _ _ e refl)
+same-attempt (attempt.Cancel g f) (attempt.Red h k) p q e = absurd (apart _ _ e refl)
+same-attempt (attempt.Cancel g f) (attempt.Tail j) p q e = absurd (apart _ _ e refl)
+same-attempt (attempt.Cancel g f) (attempt.Split j) p q e = absurd (apart _ _ e refl)
+same-attempt (attempt.Cancel g f) (attempt.Factor j) p q e = absurd (apart _ _ e refl)
 same-attempt (attempt.Split i) (attempt.Drop j) p q e = absurd (apart _ _ e refl)
 same-attempt (attempt.Split i) (attempt.Red h k) p q e = absurd (apart _ _ e refl)
 same-attempt (attempt.Split i) (attempt.Tail j) p q e = absurd (apart _ _ e refl)
+same-attempt (attempt.Split i) (attempt.Cancel h k) p q e = absurd (apart _ _ e refl)
+same-attempt (attempt.Split i) (attempt.Factor j) p q e = absurd (apart _ _ e refl)
+same-attempt (attempt.Factor i) (attempt.Drop j) p q e = absurd (apart _ _ e refl)
+same-attempt (attempt.Factor i) (attempt.Red h k) p q e = absurd (apart _ _ e refl)
+same-attempt (attempt.Factor i) (attempt.Tail j) p q e = absurd (apart _ _ e refl)
+same-attempt (attempt.Factor i) (attempt.Cancel h k) p q e = absurd (apart _ _ e refl)
+same-attempt (attempt.Factor i) (attempt.Split j) p q e = absurd (apart _ _ e refl)
 
 same-verdict : (names : List VarName) (v w : Verdict) → are_variables names ≡ true → FitsVerdict names v → FitsVerdict names w → verdict_text names v ≡ verdict_text names w → v ≡ w
 same-verdict names verdict.Proved verdict.Proved n p q e = refl
@@ -184,39 +211,39 @@ same-verdict names (verdict.Left a r) (verdict.Under ds) n p q e = absurd (apart
 same-verdict names (verdict.Left a r) (verdict.NotProved b j t) n p q e = absurd (apart _ _ e refl)
 same-verdict names (verdict.Left a r) (verdict.Degenerate b) n p q e = absurd (apart _ _ e refl)
 
-tail-end : (names : List VarName) (t : Tail) → EndsAt 32 (tail_text names t)
-tail-end names Nothing = tt
-tail-end names (Poly p) = refl
-tail-end names (Names ns) = names-end ns
-tail-end names (Tried what) = refl
-tail-end names (Told v) = refl
+rest-end : (names : List VarName) (t : Rest) → EndsAt 32 (rest_text names t)
+rest-end names Nothing = tt
+rest-end names (Poly p) = refl
+rest-end names (Names ns) = names-end ns
+rest-end names (Tried what) = refl
+rest-end names (Told v) = refl
 
-same-tail : (names : List VarName) (t u : Tail) → are_variables names ≡ true → tail_kind_of t ≡ tail_kind_of u → FitsTail names t → FitsTail names u → tail_text names t ≡ tail_text names u → t ≡ u
-same-tail names Nothing Nothing n k p q e = refl
-same-tail names (Poly r) (Poly t) n k p q e = ap Poly (same-poly names r t n p q (ap (drop 1) e))
-same-tail names (Names ms) (Names ns) n k p q e = ap Names (same-names ms ns (named ms p) (named ns q) e)
-same-tail names (Tried a) (Tried b) n k p q e = ap Tried (same-attempt a b p q (ap (drop 1) e))
-same-tail names (Told v) (Told w) n k p q e = ap Told (same-verdict names v w n p q (ap (drop 1) e))
-same-tail names Nothing (Poly t) n k p q e = cc
-same-tail names Nothing (Names ns) n k p q e = cc
-same-tail names Nothing (Tried b) n k p q e = cc
-same-tail names Nothing (Told w) n k p q e = cc
-same-tail names (Poly r) Nothing n k p q e = cc
-same-tail names (Poly r) (Names ns) n k p q e = cc
-same-tail names (Poly r) (Tried b) n k p q e = cc
-same-tail names (Poly r) (Told w) n k p q e = cc
-same-tail names (Names ms) Nothing n k p q e = cc
-same-tail names (Names ms) (Poly t) n k p q e = cc
-same-tail names (Names ms) (Tried b) n k p q e = cc
-same-tail names (Names ms) (Told w) n k p q e = cc
-same-tail names (Tried a) Nothing n k p q e = cc
-same-tail names (Tried a) (Poly t) n k p q e = cc
-same-tail names (Tried a) (Names ns) n k p q e = cc
-same-tail names (Tried a) (Told w) n k p q e = cc
-same-tail names (Told v) Nothing n k p q e = cc
-same-tail names (Told v) (Poly t) n k p q e = cc
-same-tail names (Told v) (Names ns) n k p q e = cc
-same-tail names (Told v) (Tried b) n k p q e = cc
+same-rest : (names : List VarName) (t u : Rest) → are_variables names ≡ true → rest_kind_of t ≡ rest_kind_of u → FitsRest names t → FitsRest names u → rest_text names t ≡ rest_text names u → t ≡ u
+same-rest names Nothing Nothing n k p q e = refl
+same-rest names (Poly r) (Poly t) n k p q e = ap Poly (same-poly names r t n p q (ap (drop 1) e))
+same-rest names (Names ms) (Names ns) n k p q e = ap Names (same-names ms ns (named ms p) (named ns q) e)
+same-rest names (Tried a) (Tried b) n k p q e = ap Tried (same-attempt a b p q (ap (drop 1) e))
+same-rest names (Told v) (Told w) n k p q e = ap Told (same-verdict names v w n p q (ap (drop 1) e))
+same-rest names Nothing (Poly t) n k p q e = cc
+same-rest names Nothing (Names ns) n k p q e = cc
+same-rest names Nothing (Tried b) n k p q e = cc
+same-rest names Nothing (Told w) n k p q e = cc
+same-rest names (Poly r) Nothing n k p q e = cc
+same-rest names (Poly r) (Names ns) n k p q e = cc
+same-rest names (Poly r) (Tried b) n k p q e = cc
+same-rest names (Poly r) (Told w) n k p q e = cc
+same-rest names (Names ms) Nothing n k p q e = cc
+same-rest names (Names ms) (Poly t) n k p q e = cc
+same-rest names (Names ms) (Tried b) n k p q e = cc
+same-rest names (Names ms) (Told w) n k p q e = cc
+same-rest names (Tried a) Nothing n k p q e = cc
+same-rest names (Tried a) (Poly t) n k p q e = cc
+same-rest names (Tried a) (Names ns) n k p q e = cc
+same-rest names (Tried a) (Told w) n k p q e = cc
+same-rest names (Told v) Nothing n k p q e = cc
+same-rest names (Told v) (Poly t) n k p q e = cc
+same-rest names (Told v) (Names ns) n k p q e = cc
+same-rest names (Told v) (Tried b) n k p q e = cc
 
 -- ---- lines
 -- what a field holds, and what the rest of a line holds
@@ -242,50 +269,53 @@ held_by (Why r) = record nothing_held { why = r }
 abbrev held_at : ℕ → List Field → Held
 held_at n fs = held_by (get_or fs n (Index 0))
 
-record Rest : Type 0 where
+record Shown : Type 0 where
   poly : Polynomial
   names : List VarName
   tried : Attempt
   told : Verdict
 
-abbrev no_rest : Rest
-no_rest = record { poly = []; names = []; tried = attempt.Drop 0; told = verdict.Proved }
+abbrev none_shown : Shown
+none_shown = record { poly = []; names = []; tried = attempt.Drop 0; told = verdict.Proved }
 
-abbrev rest_of : Tail → Rest
-rest_of Nothing = no_rest
-rest_of (Poly p) = record no_rest { poly = p }
-rest_of (Names ns) = record no_rest { names = ns }
-rest_of (Tried a) = record no_rest { tried = a }
-rest_of (Told v) = record no_rest { told = v }
+abbrev shown_of : Rest → Shown
+shown_of Nothing = none_shown
+shown_of (Poly p) = record none_shown { poly = p }
+shown_of (Names ns) = record none_shown { names = ns }
+shown_of (Tried a) = record none_shown { tried = a }
+shown_of (Told v) = record none_shown { told = v }
 
-abbrev line_by : LineWord → List Field → Tail → LogLine
+abbrev line_by : LineWord → List Field → Rest → LogLine
 line_by word.Head fs t = line.Head (held_at 0 fs).number
 line_by word.Fuel fs t = line.Fuel (held_at 0 fs).number
 line_by word.Proves fs t = line.Proves (held_at 0 fs).number
 line_by word.Prove fs t = line.Prove (held_at 0 fs).number
-line_by word.Vars fs t = line.Vars (rest_of t).names
-line_by word.Hyp fs t = line.Hyp (rest_of t).poly
-line_by word.Con fs t = line.Con (rest_of t).poly
+line_by word.Vars fs t = line.Vars (shown_of t).names
+line_by word.Hyp fs t = line.Hyp (shown_of t).poly
+line_by word.Con fs t = line.Con (shown_of t).poly
 line_by word.Node fs t = line.Node (held_at 0 fs).letters
 line_by word.Drop fs t = line.Drop (held_at 0 fs).number
-line_by word.Red fs t = line.Red (held_at 0 fs).number (held_at 1 fs).number (held_at 2 fs).multiplier (rest_of t).poly
-line_by word.Tail fs t = line.Tail (held_at 0 fs).number (rest_of t).poly
-line_by word.Split fs t = line.Split (held_at 0 fs).number (rest_of t).poly
+line_by word.Red fs t = line.Red (held_at 0 fs).number (held_at 1 fs).number (held_at 2 fs).multiplier (shown_of t).poly
+line_by word.Tail fs t = line.Tail (held_at 0 fs).number (shown_of t).poly
+line_by word.Cancel fs t = line.Cancel (held_at 0 fs).number (held_at 1 fs).number (shown_of t).poly
+line_by word.Factor fs t = line.Factor (held_at 0 fs).number (shown_of t).poly
+line_by word.Void fs t = line.Void (held_at 0 fs).number (held_at 1 fs).number
+line_by word.Split fs t = line.Split (held_at 0 fs).number (shown_of t).poly
 line_by word.Close fs t = line.Close (held_at 0 fs).number
 line_by word.Clash fs t = line.Clash (held_at 0 fs).number (held_at 1 fs).number
 line_by word.System fs t = line.System
-line_by word.Step fs t = line.Chain (record { k = (held_at 0 fs).number; f = (held_at 1 fs).number; m = (held_at 2 fs).multiplier; r = (rest_of t).poly })
+line_by word.Step fs t = line.Chain (record { k = (held_at 0 fs).number; f = (held_at 1 fs).number; m = (held_at 2 fs).multiplier; r = (shown_of t).poly })
 line_by word.Proved fs t = line.Proved
 line_by word.Remainder fs t = line.Remainder (held_at 0 fs).number
 line_by word.Unreduced fs t = line.Unreduced (held_at 0 fs).number (held_at 1 fs).why (held_at 2 fs).number
-line_by word.Open fs t = line.Open (held_at 0 fs).why (rest_of t).tried
-line_by word.Eq fs t = line.Eq (rest_of t).poly
-line_by word.Ne fs t = line.Ne (rest_of t).poly
-line_by word.Verdict fs t = line.Verdict (rest_of t).told
+line_by word.Open fs t = line.Open (held_at 0 fs).why (shown_of t).tried
+line_by word.Eq fs t = line.Eq (shown_of t).poly
+line_by word.Ne fs t = line.Ne (shown_of t).poly
+line_by word.Verdict fs t = line.Verdict (shown_of t).told
 line_by word.End fs t = line.End
 
 abbrev line_again : Row → LogLine
-line_again r = line_by r.word r.fields r.tail
+line_again r = line_by r.word r.fields r.rest
 
 again : (l : LogLine) → line_again (row_of l) ≡ l
 again (line.Head v) = refl
@@ -299,6 +329,9 @@ again (line.Node path) = refl
 again (line.Drop i) = refl
 again (line.Red g f m r) = refl
 again (line.Tail f r) = refl
+again (line.Cancel g q r) = refl
+again (line.Factor f r) = refl
+again (line.Void j f) = refl
 again (line.Split f r) = refl
 again (line.Close i) = refl
 again (line.Clash i j) = refl
@@ -317,10 +350,10 @@ pub one_line : (names : List VarName) (l m : LogLine) → are_variables names �
 one_line names l m n f g e =
     let a = row_of l in
     let b = row_of m in
-    let rest : Row → List ℕ = λ r. fields_text r.fields ++ tail_text names r.tail in
+    let rest : Row → List ℕ = λ r. fields_text r.fields ++ rest_text names r.rest in
     let c = cut 32 (word_text a.word) (word_text b.word) (rest a) (rest b) (high-blank (word_text a.word) (word-high a.word)) (high-blank (word_text b.word) (word-high b.word))
-    (fields-end a.fields (tail_text names a.tail) (tail-end names a.tail)) (fields-end b.fields (tail_text names b.tail) (tail-end names b.tail)) e in
+    (fields-end a.fields (rest_text names a.rest) (rest-end names a.rest)) (fields-end b.fields (rest_text names b.rest) (rest-end names b.rest)) e in
     let w = same-word a.word b.word c.0 in
-    let d = same-fields a.fields b.fields (tail_text names a.tail) (tail_text names b.tail) (placed l ∙ ap field_kinds w ∙ sym (placed m)) f.0 g.0 (tail-end names a.tail) (tail-end names b.tail) c.1 in
-    let t = same-tail names a.tail b.tail n (tailed l ∙ ap tail_kind w ∙ sym (tailed m)) f.1 g.1 d.1 in
+    let d = same-fields a.fields b.fields (rest_text names a.rest) (rest_text names b.rest) (placed l ∙ ap field_kinds w ∙ sym (placed m)) f.0 g.0 (rest-end names a.rest) (rest-end names b.rest) c.1 in
+    let t = same-rest names a.rest b.rest n (rest_placed l ∙ ap rest_kind w ∙ sym (rest_placed m)) f.1 g.1 d.1 in
     sym (again l) ∙ (λ i. line_by (w i) (d.0 i) (t i)) ∙ again m

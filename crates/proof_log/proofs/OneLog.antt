@@ -43,6 +43,7 @@ step-keeps : Keeps step_line
 step-keeps (step.Drop i) (step.Drop j) e = let h : i ≡ j = cc in ap step.Drop h
 step-keeps (step.Drop i) (step.Red h k n s) e = cc
 step-keeps (step.Drop i) (step.Tail k s) e = cc
+step-keeps (step.Drop i) (step.Cancel h k s) e = cc
 step-keeps (step.Red g f m r) (step.Drop j) e = cc
 step-keeps (step.Red g f m r) (step.Red h k n s) e =
     let a : g ≡ h = cc in
@@ -51,12 +52,22 @@ step-keeps (step.Red g f m r) (step.Red h k n s) e =
     let d : r ≡ s = cc in
     λ i. step.Red (a i) (b i) (c i) (d i)
 step-keeps (step.Red g f m r) (step.Tail k s) e = cc
+step-keeps (step.Red g f m r) (step.Cancel h k s) e = cc
 step-keeps (step.Tail f r) (step.Drop j) e = cc
 step-keeps (step.Tail f r) (step.Red h k n s) e = cc
 step-keeps (step.Tail f r) (step.Tail k s) e =
     let b : f ≡ k = cc in
     let d : r ≡ s = cc in
     λ i. step.Tail (b i) (d i)
+step-keeps (step.Tail f r) (step.Cancel h k s) e = cc
+step-keeps (step.Cancel g q r) (step.Drop j) e = cc
+step-keeps (step.Cancel g q r) (step.Red h k n s) e = cc
+step-keeps (step.Cancel g q r) (step.Tail k s) e = cc
+step-keeps (step.Cancel g q r) (step.Cancel h k s) e =
+    let a : g ≡ h = cc in
+    let b : q ≡ k = cc in
+    let d : r ≡ s = cc in
+    λ i. step.Cancel (a i) (b i) (d i)
 
 -- ---- what stands behind a piece
 record Behind (ls : List LogLine) : Type 0 where
@@ -119,6 +130,38 @@ outcome-same cons p q (outcome.Split f J) (outcome.Split g K) a b na nb v w e =
     let c : f ≡ g = cc in
     let d : J ≡ K = cc in
     (v.0 ∙ sym w.0, v.1 ∙ sym w.1, (λ i. outcome.Split (c i) (d i)), (parts _ _ a b e).1)
+outcome-same cons p q (outcome.Factor f J) (outcome.Factor g K) a b na nb v w e =
+    let h : ◌≡◌ {A = LogLine} (line.Factor f J) (line.Factor g K) = (parts _ _ a b e).0 in
+    let c : f ≡ g = cc in
+    let d : J ≡ K = cc in
+    (v.0 ∙ sym w.0, v.1 ∙ sym w.1, (λ i. outcome.Factor (c i) (d i)), (parts _ _ a b e).1)
+outcome-same cons p q (outcome.Void i h) (outcome.Void j k) a b na nb v w e =
+    let l : ◌≡◌ {A = LogLine} (line.Void i h) (line.Void j k) = (parts _ _ a b e).0 in
+    let c : i ≡ j = cc in
+    let d : h ≡ k = cc in
+    (v.0 ∙ sym w.0, v.1 ∙ sym w.1, (λ i. outcome.Void (c i) (d i)), (parts _ _ a b e).1)
+outcome-same cons p q (outcome.Factor f J) (outcome.Split g K) a b na nb v w e = cc
+outcome-same cons p q (outcome.Split f J) (outcome.Factor g K) a b na nb v w e = cc
+outcome-same cons p q (outcome.Factor f J) (outcome.Close j) a b na nb v w e = cc
+outcome-same cons p q (outcome.Close i) (outcome.Factor g K) a b na nb v w e = cc
+outcome-same cons p q (outcome.Factor f J) (outcome.Clash j k) a b na nb v w e = cc
+outcome-same cons p q (outcome.Clash i h) (outcome.Factor g K) a b na nb v w e = cc
+outcome-same cons p q (outcome.Factor f J) (outcome.Void j k) a b na nb v w e = cc
+outcome-same cons p q (outcome.Factor f J) (outcome.System d t) a b na nb v w e = cc
+outcome-same cons p q (outcome.System c s) (outcome.Factor g K) a b na nb v w e = cc
+outcome-same cons p q (outcome.Factor f J) (outcome.Open z u) a b na nb v w e = cc
+outcome-same cons p q (outcome.Open r t) (outcome.Factor g K) a b na nb v w e = cc
+outcome-same cons p q (outcome.Void i h) (outcome.Split g K) a b na nb v w e = cc
+outcome-same cons p q (outcome.Split f J) (outcome.Void j k) a b na nb v w e = cc
+outcome-same cons p q (outcome.Void i h) (outcome.Factor g K) a b na nb v w e = cc
+outcome-same cons p q (outcome.Void i h) (outcome.Close j) a b na nb v w e = cc
+outcome-same cons p q (outcome.Close i) (outcome.Void j k) a b na nb v w e = cc
+outcome-same cons p q (outcome.Void i h) (outcome.Clash j k) a b na nb v w e = cc
+outcome-same cons p q (outcome.Clash i h) (outcome.Void j k) a b na nb v w e = cc
+outcome-same cons p q (outcome.Void i h) (outcome.System d t) a b na nb v w e = cc
+outcome-same cons p q (outcome.System c s) (outcome.Void j k) a b na nb v w e = cc
+outcome-same cons p q (outcome.Void i h) (outcome.Open z u) a b na nb v w e = cc
+outcome-same cons p q (outcome.Open r t) (outcome.Void j k) a b na nb v w e = cc
 outcome-same cons p q (outcome.Split f J) (outcome.Close j) a b na nb v w e = cc
 outcome-same cons p q (outcome.Split f J) (outcome.Clash j k) a b na nb v w e = cc
 outcome-same cons p q (outcome.Split f J) (outcome.System c s) a b na nb v w e = cc
@@ -177,18 +220,31 @@ no_step : (p : Piece) (x : Outcome) (a : List LogLine) (t : Step) (more : List L
 no_step p (outcome.Split f J) a (step.Drop k) more e = cc
 no_step p (outcome.Split f J) a (step.Red g k m q) more e = cc
 no_step p (outcome.Split f J) a (step.Tail k q) more e = cc
+no_step p (outcome.Split f J) a (step.Cancel g k q) more e = cc
+no_step p (outcome.Factor f J) a (step.Drop k) more e = cc
+no_step p (outcome.Factor f J) a (step.Red g k m q) more e = cc
+no_step p (outcome.Factor f J) a (step.Tail k q) more e = cc
+no_step p (outcome.Factor f J) a (step.Cancel g k q) more e = cc
 no_step p (outcome.Close i) a (step.Drop k) more e = cc
 no_step p (outcome.Close i) a (step.Red g k m q) more e = cc
 no_step p (outcome.Close i) a (step.Tail k q) more e = cc
+no_step p (outcome.Close i) a (step.Cancel g k q) more e = cc
 no_step p (outcome.Clash i j) a (step.Drop k) more e = cc
 no_step p (outcome.Clash i j) a (step.Red g k m q) more e = cc
 no_step p (outcome.Clash i j) a (step.Tail k q) more e = cc
+no_step p (outcome.Clash i j) a (step.Cancel g k q) more e = cc
+no_step p (outcome.Void i j) a (step.Drop k) more e = cc
+no_step p (outcome.Void i j) a (step.Red g k m q) more e = cc
+no_step p (outcome.Void i j) a (step.Tail k q) more e = cc
+no_step p (outcome.Void i j) a (step.Cancel g k q) more e = cc
 no_step p (outcome.System c s) a (step.Drop k) more e = cc
 no_step p (outcome.System c s) a (step.Red g k m q) more e = cc
 no_step p (outcome.System c s) a (step.Tail k q) more e = cc
+no_step p (outcome.System c s) a (step.Cancel g k q) more e = cc
 no_step p (outcome.Open r t) a (step.Drop k) more e = cc
 no_step p (outcome.Open r t) a (step.Red g k m q) more e = cc
 no_step p (outcome.Open r t) a (step.Tail k q) more e = cc
+no_step p (outcome.Open r t) a (step.Cancel g k q) more e = cc
 
 piece-same : (cons : List Polynomial) (p q : Piece) (a b : List LogLine) → Behind a → Behind b → PieceWritten cons p → PieceWritten cons q → piece_lines p ++ a ≡ piece_lines q ++ b → (p ≡ q) × (a ≡ b)
 piece-same cons p q a b na nb v w e =

@@ -16,7 +16,7 @@ use Rattle.proof_log.specs.declared.line.LogLine.TheVariants as line
 use Rattle.proof_log.specs.declared.log.Proof.{Proof}
 use Rattle.proof_log.specs.Headings.{Heading, IsHeading}
 use Rattle.proof_log.specs.Lines.{log_lines, LogWritten}
-use Rattle.proof_log.specs.Text.{Index, FitsPoly, Field, Conclusion, Letters, Why, field_text, fields_text, FitFields, Tail, Nothing, Poly, Names, Tried, Told, FitPolys, attempt_fields, more_text, polys_text, verdict_text, names_text, tail_text, FitsVerdict, FitsTail, row_of, word_text, line_text, IsLine, names_after, text_of, AreLines}
+use Rattle.proof_log.specs.Text.{Index, FitsPoly, Field, Conclusion, Letters, Why, field_text, fields_text, FitFields, Rest, Nothing, Poly, Names, Tried, Told, FitPolys, attempt_fields, more_text, polys_text, verdict_text, names_text, rest_text, FitsVerdict, FitsRest, row_of, word_text, line_text, IsLine, names_after, text_of, AreLines}
 use Rattle.proof_log.proofs.Bytes.{high, Avoids, avoids-append, cut, high-line, poly-line}
 use Rattle.proof_log.proofs.OneLog.{one_log}
 use Rattle.proof_log.proofs.Fields.{field-high, word-high}
@@ -43,6 +43,8 @@ attempt-plain : (a : Attempt) → FitFields (attempt_fields a) → Avoids 10 (tr
 attempt-plain (attempt.Drop i) p = worded (codes "drop") (fields_text (Index i ∷ [])) refl (fields-plain (Index i ∷ []) p)
 attempt-plain (attempt.Red g f) p = worded (codes "red") (fields_text (Index g ∷ Index f ∷ [])) refl (fields-plain (Index g ∷ Index f ∷ []) p)
 attempt-plain (attempt.Tail i) p = worded (codes "tail") (fields_text (Index i ∷ [])) refl (fields-plain (Index i ∷ []) p)
+attempt-plain (attempt.Cancel g q) p = worded (codes "cancel") (fields_text (Index g ∷ Index q ∷ [])) refl (fields-plain (Index g ∷ Index q ∷ []) p)
+attempt-plain (attempt.Factor i) p = worded (codes "factor") (fields_text (Index i ∷ [])) refl (fields-plain (Index i ∷ []) p)
 attempt-plain (attempt.Split i) p = worded (codes "split") (fields_text (Index i ∷ [])) refl (fields-plain (Index i ∷ []) p)
 
 module _ (names : List VarName) (valid : are_variables names ≡ true) where
@@ -68,17 +70,17 @@ module _ (names : List VarName) (valid : are_variables names ≡ true) where
   verdict-plain (verdict.Degenerate a) fits = worded (codes "degenerate") (fields_text (Letters a ∷ [])) refl (fields-plain (Letters a ∷ []) (fits, tt))
   verdict-plain (verdict.Left a r) fits = worded (codes "left") (fields_text (Letters a ∷ Why r ∷ [])) refl (fields-plain (Letters a ∷ Why r ∷ []) (fits, (tt, tt)))
 
-  tail-plain : (t : Tail) → FitsTail names t → Avoids 10 (tail_text names t)
-  tail-plain Nothing fits = tt
-  tail-plain (Poly r) fits = blank-plain (poly_text names r) (plain r fits)
-  tail-plain (Names ns) fits = names-plain ns (named ns fits)
-  tail-plain (Tried a) fits = blank-plain (tried_text a) (attempt-plain a fits)
-  tail-plain (Told v) fits = blank-plain (verdict_text names v) (verdict-plain v fits)
+  rest-plain : (t : Rest) → FitsRest names t → Avoids 10 (rest_text names t)
+  rest-plain Nothing fits = tt
+  rest-plain (Poly r) fits = blank-plain (poly_text names r) (plain r fits)
+  rest-plain (Names ns) fits = names-plain ns (named ns fits)
+  rest-plain (Tried a) fits = blank-plain (tried_text a) (attempt-plain a fits)
+  rest-plain (Told v) fits = blank-plain (verdict_text names v) (verdict-plain v fits)
 
   pub line-plain : (l : LogLine) → IsLine names l → Avoids 10 (line_text names l)
   line-plain l fits =
-      worded (word_text (row_of l).word) (fields_text (row_of l).fields ++ tail_text names (row_of l).tail) (word-high (row_of l).word)
-      (avoids-append 10 (fields_text (row_of l).fields) (tail_text names (row_of l).tail) (fields-plain (row_of l).fields fits.0) (tail-plain (row_of l).tail fits.1))
+      worded (word_text (row_of l).word) (fields_text (row_of l).fields ++ rest_text names (row_of l).rest) (word-high (row_of l).word)
+      (avoids-append 10 (fields_text (row_of l).fields) (rest_text names (row_of l).rest) (fields-plain (row_of l).fields fits.0) (rest-plain (row_of l).rest fits.1))
 
 -- ---- texts
 pub names-kept : (names : List VarName) (l : LogLine) → are_variables names ≡ true → IsLine names l → are_variables (names_after names l) ≡ true
@@ -93,6 +95,9 @@ names-kept names (line.Node path) valid fits = valid
 names-kept names (line.Drop i) valid fits = valid
 names-kept names (line.Red g f m r) valid fits = valid
 names-kept names (line.Tail f r) valid fits = valid
+names-kept names (line.Cancel g q r) valid fits = valid
+names-kept names (line.Factor f r) valid fits = valid
+names-kept names (line.Void j f) valid fits = valid
 names-kept names (line.Split f r) valid fits = valid
 names-kept names (line.Close i) valid fits = valid
 names-kept names (line.Clash i j) valid fits = valid

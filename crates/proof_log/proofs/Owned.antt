@@ -62,6 +62,7 @@ step-keeps : (s : Step) → Keeps (step_line s)
 step-keeps (step.Drop i) names = refl
 step-keeps (step.Red g f m r) names = refl
 step-keeps (step.Tail f r) names = refl
+step-keeps (step.Cancel g q r) names = refl
 
 status-keeps : (s : LeafStatus) → Keeps (status_line s)
 status-keeps status.Proved names = refl
@@ -76,6 +77,8 @@ lists-keep p = all-append Keeps (map line.Eq p.eqs) (map line.Ne p.nes) (polynom
 
 outcome-keeps : (p : Piece) (x : Outcome) → AllKeep (outcome_lines p x)
 outcome-keeps p (outcome.Split f initial) = ((λ names. refl), tt)
+outcome-keeps p (outcome.Factor f v) = ((λ names. refl), tt)
+outcome-keeps p (outcome.Void j f) = ((λ names. refl), tt)
 outcome-keeps p (outcome.Close i) = ((λ names. refl), tt)
 outcome-keeps p (outcome.Clash i j) = ((λ names. refl), tt)
 outcome-keeps p (outcome.System chain s) = (
@@ -107,6 +110,7 @@ step-over : (names : List VarName) (s : Step) → IsLine names (step_line s) →
 step-over names (step.Drop i) h = tt
 step-over names (step.Red g f m r) h = h.1.1
 step-over names (step.Tail f r) h = h.1.1
+step-over names (step.Cancel g q r) h = h.1.1
 
 abbrev Over : List VarName → List Polynomial → Type 0
 Over names = AllByRecursion (IsOver (length names))
@@ -126,6 +130,8 @@ none-over names ps e = subst (Over names) (sym e) tt
 outcome-over : (names : List VarName) (cons : List Polynomial) (p : Piece) (x : Outcome) → OutcomeWritten cons p x → AllByRecursion (IsLine names) (outcome_lines p x)
     → Over names p.eqs × Over names p.nes × OutcomeIsOver (length names) x
 outcome-over names cons p (outcome.Split f initial) w h = (none-over names p.eqs w.0, none-over names p.nes w.1, h.0.1.1)
+outcome-over names cons p (outcome.Factor f v) w h = (none-over names p.eqs w.0, none-over names p.nes w.1, h.0.1.1)
+outcome-over names cons p (outcome.Void j f) w h = (none-over names p.eqs w.0, none-over names p.nes w.1, tt)
 outcome-over names cons p (outcome.Close i) w h = (none-over names p.eqs w.0, none-over names p.nes w.1, tt)
 outcome-over names cons p (outcome.Clash i j) w h = (none-over names p.eqs w.0, none-over names p.nes w.1, tt)
 outcome-over names cons p (outcome.System chain s) w h =

@@ -35,6 +35,7 @@ module _ (n left h c : ℕ) where
   step_goes w (step.Drop i) = refl
   step_goes w (step.Red g f m r) = refl
   step_goes w (step.Tail f r) = refl
+  step_goes w (step.Cancel g q r) = refl
 
   run_steps : (w : Bool) (ss : List Step) (rest : List LogLine) → run (at part.Steps n left h c w) (map step_line ss ++ rest) ≡ run (at part.Steps n left h c w) rest
   run_steps w [] rest = refl
@@ -110,6 +111,8 @@ module _ (n left h c : ℕ) where
   run_outcome : (w : Bool) (p : Piece) (o : Outcome) (rest : List LogLine) → Ended (at part.Steps n left h c w) (outcome_lines p o) rest
   unfolding goes
   run_outcome w p (outcome.Split f q) rest = record { to = part.Pieces; is = inl refl; runs = one (at part.Steps n left h c w) (at part.Pieces n left h c true) (line.Split f q) rest refl }
+  run_outcome w p (outcome.Factor f q) rest = record { to = part.Pieces; is = inl refl; runs = one (at part.Steps n left h c w) (at part.Pieces n left h c true) (line.Factor f q) rest refl }
+  run_outcome w p (outcome.Void j f) rest = record { to = part.Pieces; is = inl refl; runs = one (at part.Steps n left h c w) (at part.Pieces n left h c true) (line.Void j f) rest refl }
   run_outcome w p (outcome.Close i) rest = record { to = part.Pieces; is = inl refl; runs = one (at part.Steps n left h c w) (at part.Pieces n left h c true) (line.Close i) rest refl }
   run_outcome w p (outcome.Clash i j) rest = record { to = part.Pieces; is = inl refl; runs = one (at part.Steps n left h c w) (at part.Pieces n left h c true) (line.Clash i j) rest refl }
   run_outcome w p (outcome.System chain s) rest =

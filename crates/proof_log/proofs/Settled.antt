@@ -40,6 +40,8 @@ attempt-within : (version : ℕ) (what : Attempt) → FitFields (attempt_fields 
 attempt-within version (attempt.Drop i) fits = le_test i MOST_INDEX fits.0.1
 attempt-within version (attempt.Red g f) fits = both_true (le_test g MOST_INDEX fits.0.1) (le_test f MOST_INDEX fits.1.0.1)
 attempt-within version (attempt.Tail f) fits = le_test f MOST_INDEX fits.0.1
+attempt-within version (attempt.Cancel g q) fits = both_true (le_test g MOST_INDEX fits.0.1) (le_test q MOST_INDEX fits.1.0.1)
+attempt-within version (attempt.Factor f) fits = le_test f MOST_INDEX fits.0.1
 attempt-within version (attempt.Split f) fits = le_test f MOST_INDEX fits.0.1
 
 abbrev Leaves : Setting → Place → Type 0
@@ -75,6 +77,9 @@ module _ (k : Setting) (s t : Place) (names : List VarName) where
   one-line (line.Drop i) f d h = (le_test i MOST_INDEX f.0.0.1, on (line.Drop i) d _ (same _ _ d.count) refl h)
   one-line (line.Red i j m r) f d h = (both_true (le_test i MOST_INDEX f.0.0.1) (le_test j MOST_INDEX f.0.1.0.1), on (line.Red i j m r) d _ (same _ _ d.count) refl h)
   one-line (line.Tail i r) f d h = (le_test i MOST_INDEX f.0.0.1, on (line.Tail i r) d _ (same _ _ d.count) refl h)
+  one-line (line.Cancel i j r) f d h = (both_true (le_test i MOST_INDEX f.0.0.1) (le_test j MOST_INDEX f.0.1.0.1), on (line.Cancel i j r) d _ (same _ _ d.count) refl h)
+  one-line (line.Factor i r) f d h = (le_test i MOST_INDEX f.0.0.1, on (line.Factor i r) d _ (same _ _ d.count) refl h)
+  one-line (line.Void i j) f d h = (both_true (le_test i MOST_INDEX f.0.0.1) (le_test j MOST_INDEX f.0.1.0.1), on (line.Void i j) d _ (same _ _ d.count) refl h)
   one-line (line.Split i r) f d h = (le_test i MOST_INDEX f.0.0.1, on (line.Split i r) d _ (same _ _ d.count) refl h)
   one-line (line.Close i) f d h = (le_test i MOST_INDEX f.0.0.1, on (line.Close i) d _ (same _ _ d.count) refl h)
   one-line (line.Clash i j) f d h = (both_true (le_test i MOST_INDEX f.0.0.1) (le_test j MOST_INDEX f.0.1.0.1), on (line.Clash i j) d _ (same _ _ d.count) refl h)
@@ -128,7 +133,10 @@ stays k (line.Node path) h = refl
 stays k (line.Drop i) h = refl
 stays k (line.Red i j m r) h = refl
 stays k (line.Tail i r) h = refl
+stays k (line.Cancel i j r) h = refl
 stays k (line.Split i r) h = refl
+stays k (line.Factor i r) h = refl
+stays k (line.Void i j) h = refl
 stays k (line.Close i) h = refl
 stays k (line.Clash i j) h = refl
 stays k line.System h = refl

@@ -18,7 +18,7 @@ use Rattle.verdicts.specs.declared.verdict.Verdict.{Verdict}
 use Rattle.verdicts.specs.declared.verdict.Verdict.TheVariants as verdict
 use Rattle.proof_log.specs.declared.line.LogLine.{LogLine}
 use Rattle.proof_log.specs.declared.line.LogLine.TheVariants as line
-use Rattle.proof_log.specs.Text.{Field, Version, Amount, Proofs, Conclusion, Index, Multiplier, Letters, Why, Tried, letter_text, minus_where, field_text, FitsField, fields_text, FitFields, FitPolys, attempt_fields, more_text, polys_text, verdict_text, tail_text, FitsVerdict, row_of, word_text, line_text, IsLine, names_after, text_of, AreLines}
+use Rattle.proof_log.specs.Text.{Field, Version, Amount, Proofs, Conclusion, Index, Multiplier, Letters, Why, Tried, letter_text, minus_where, field_text, FitsField, fields_text, FitFields, FitPolys, attempt_fields, more_text, polys_text, verdict_text, rest_text, FitsVerdict, row_of, word_text, line_text, IsLine, names_after, text_of, AreLines}
 use Rattle.proof_log.specs.Lengths.{term_most, verdict_most, line_all, lines_all}
 use Rattle.proof_log.proofs.OneText.{names-kept}
 use Rattle.proof_log.proofs.ShortTerms.{FewDigits, few-digits, small-decimal, poly-short}
@@ -69,10 +69,12 @@ fields-short (f ∷ fs) fits =
     let b = fields-short fs fits.1 in
     omega (arith, a, b, length-append (field_text f) (fields_text fs))
 
-attempt-short : (names : List VarName) (what : Attempt) → FitFields (attempt_fields what) → length (tail_text names (Tried what)) ≤ 20
+attempt-short : (names : List VarName) (what : Attempt) → FitFields (attempt_fields what) → length (rest_text names (Tried what)) ≤ 20
 attempt-short names (attempt.Drop i) f = let a = fields-short (attempt_fields (attempt.Drop i)) f in omega (arith, a)
 attempt-short names (attempt.Red g h) f = let a = fields-short (attempt_fields (attempt.Red g h)) f in omega (arith, a)
 attempt-short names (attempt.Tail i) f = let a = fields-short (attempt_fields (attempt.Tail i)) f in omega (arith, a)
+attempt-short names (attempt.Cancel g q) f = let a = fields-short (attempt_fields (attempt.Cancel g q)) f in omega (arith, a)
+attempt-short names (attempt.Factor i) f = let a = fields-short (attempt_fields (attempt.Factor i)) f in omega (arith, a)
 attempt-short names (attempt.Split i) f = let a = fields-short (attempt_fields (attempt.Split i)) f in omega (arith, a)
 
 -- ---- the rest of a line
@@ -109,10 +111,10 @@ verdict-short names (verdict.Degenerate a) n p = let h = fields-short (Letters a
 verdict-short names (verdict.Left a r) n p = let h = fields-short (Letters a ∷ Why r ∷ []) (p, (tt, tt)) in omega (arith, h, length-append (codes "left") (fields_text (Letters a ∷ Why r ∷ [])))
 
 -- ---- lines, with the LF
-line-length : (names : List VarName) (l : LogLine) → length (line_text names l) ≡ length (word_text (row_of l).word) + (length (fields_text (row_of l).fields) + length (tail_text names (row_of l).tail))
+line-length : (names : List VarName) (l : LogLine) → length (line_text names l) ≡ length (word_text (row_of l).word) + (length (fields_text (row_of l).fields) + length (rest_text names (row_of l).rest))
 line-length names l =
-    let a = length-append (word_text (row_of l).word) (fields_text (row_of l).fields ++ tail_text names (row_of l).tail) in
-    let b = length-append (fields_text (row_of l).fields) (tail_text names (row_of l).tail) in
+    let a = length-append (word_text (row_of l).word) (fields_text (row_of l).fields ++ rest_text names (row_of l).rest) in
+    let b = length-append (fields_text (row_of l).fields) (rest_text names (row_of l).rest) in
     omega (arith, a, b)
 
 pub line-short : (names : List VarName) (l : LogLine) → are_variables names ≡ true → IsLine names l → 1 + length (line_text names l) ≤ line_all l
@@ -163,9 +165,19 @@ line-short names (line.Tail f r) valid fits =
     let a = fields-short (row_of (line.Tail f r)).fields fits.0 in
     let q = poly-short names r valid fits.1 in
     omega (arith, e, a, q)
+line-short names (line.Cancel g q r) valid fits =
+    let e = line-length names (line.Cancel g q r) in
+    let a = fields-short (row_of (line.Cancel g q r)).fields fits.0 in
+    let t = poly-short names r valid fits.1 in
+    omega (arith, e, a, t)
 line-short names (line.Split f r) valid fits =
     let e = line-length names (line.Split f r) in
     let a = fields-short (row_of (line.Split f r)).fields fits.0 in
+    let q = poly-short names r valid fits.1 in
+    omega (arith, e, a, q)
+line-short names (line.Factor f r) valid fits =
+    let e = line-length names (line.Factor f r) in
+    let a = fields-short (row_of (line.Factor f r)).fields fits.0 in
     let q = poly-short names r valid fits.1 in
     omega (arith, e, a, q)
 line-short names (line.Close i) valid fits =
@@ -175,6 +187,10 @@ line-short names (line.Close i) valid fits =
 line-short names (line.Clash i j) valid fits =
     let e = line-length names (line.Clash i j) in
     let a = fields-short (row_of (line.Clash i j)).fields fits.0 in
+    omega (arith, e, a)
+line-short names (line.Void i j) valid fits =
+    let e = line-length names (line.Void i j) in
+    let a = fields-short (row_of (line.Void i j)).fields fits.0 in
     omega (arith, e, a)
 line-short names line.System valid fits =
     let e = line-length names line.System in

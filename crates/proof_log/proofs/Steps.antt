@@ -46,6 +46,12 @@ piece path steps eqs nes o = record { path = path; steps = steps; eqs = eqs; nes
 pub end_split : (n left f : ℕ) (p : Polynomial) (ls : List LogLine) → Steps n left ls → Behind n left (ls ++ line.Split f p ∷ [])
 end_split n left f p ls a = whole_piece n left _ _ (piece a.path a.steps [] [] (outcome.Split f p)) (add n left ls _ _ (line.Split f p) a.before refl) refl (refl, refl)
 
+pub end_factor : (n left f : ℕ) (p : Polynomial) (ls : List LogLine) → Steps n left ls → Behind n left (ls ++ line.Factor f p ∷ [])
+end_factor n left f p ls a = whole_piece n left _ _ (piece a.path a.steps [] [] (outcome.Factor f p)) (add n left ls _ _ (line.Factor f p) a.before refl) refl (refl, refl)
+
+pub end_void : (n left i j : ℕ) (ls : List LogLine) → Steps n left ls → Behind n left (ls ++ line.Void i j ∷ [])
+end_void n left i j ls a = whole_piece n left _ _ (piece a.path a.steps [] [] (outcome.Void i j)) (add n left ls _ _ (line.Void i j) a.before refl) refl (refl, refl)
+
 pub end_close : (n left i : ℕ) (ls : List LogLine) → Steps n left ls → Behind n left (ls ++ line.Close i ∷ [])
 end_close n left i ls a = whole_piece n left _ _ (piece a.path a.steps [] [] (outcome.Close i)) (add n left ls _ _ (line.Close i) a.before refl) refl (refl, refl)
 
@@ -333,6 +339,12 @@ module _ (s t : Place) (ls : List LogLine) where
       arrive t d.counts s part.Steps _ d.behind (same _ _ d.count) (add_step s.proofs s.left (step.Red g f m r) ls (from (Steps s.proofs s.left ls) (line.Red g f m r) d a ((λ b. b), tt)))
   steps_on (line.Tail f r) d a =
       arrive t d.counts s part.Steps _ d.behind (same _ _ d.count) (add_step s.proofs s.left (step.Tail f r) ls (from (Steps s.proofs s.left ls) (line.Tail f r) d a ((λ b. b), tt)))
+  steps_on (line.Cancel g q r) d a =
+      arrive t d.counts s part.Steps _ d.behind (same _ _ d.count) (add_step s.proofs s.left (step.Cancel g q r) ls (from (Steps s.proofs s.left ls) (line.Cancel g q r) d a ((λ b. b), tt)))
+  steps_on (line.Factor f p) d a =
+      arrive t d.counts (record s { whole = true }) part.Pieces _ d.behind (same _ _ d.count) (end_factor s.proofs s.left f p ls (from (Steps s.proofs s.left ls) (line.Factor f p) d a ((λ b. b), tt)))
+  steps_on (line.Void i j) d a =
+      arrive t d.counts (record s { whole = true }) part.Pieces _ d.behind (same _ _ d.count) (end_void s.proofs s.left i j ls (from (Steps s.proofs s.left ls) (line.Void i j) d a ((λ b. b), tt)))
   steps_on (line.Split f p) d a =
       arrive t d.counts (record s { whole = true }) part.Pieces _ d.behind (same _ _ d.count) (end_split s.proofs s.left f p ls (from (Steps s.proofs s.left ls) (line.Split f p) d a ((λ b. b), tt)))
   steps_on (line.Close i) d a =

@@ -47,6 +47,7 @@ module _ (names : List VarName) where
   step-keeps (step.Drop i) = refl
   step-keeps (step.Red g f m r) = refl
   step-keeps (step.Tail f r) = refl
+  step-keeps (step.Cancel g q r) = refl
 
   status-keeps : (s : LeafStatus) → Keeps names (status_line s)
   status-keeps status.Proved = refl
@@ -62,6 +63,8 @@ module _ (names : List VarName) where
 
   outcomes : (p : Piece) (x : Outcome) (rest : List LogLine) → text_of names (outcome_lines p x ++ rest) ≡ outcome_text names p x ++ text_of names rest
   outcomes p (outcome.Split f initial) rest = kept-line names (line.Split f initial) rest refl
+  outcomes p (outcome.Factor f v) rest = kept-line names (line.Factor f v) rest refl
+  outcomes p (outcome.Void j f) rest = kept-line names (line.Void j f) rest refl
   outcomes p (outcome.Close i) rest = kept-line names (line.Close i) rest refl
   outcomes p (outcome.Clash i j) rest = kept-line names (line.Clash i j) rest refl
   outcomes p (outcome.System chain s) rest =

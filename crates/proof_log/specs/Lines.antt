@@ -23,6 +23,7 @@ abbrev pub step_line : Step → LogLine
 step_line (step.Drop i) = line.Drop i
 step_line (step.Red g f m r) = line.Red g f m r
 step_line (step.Tail f r) = line.Tail f r
+step_line (step.Cancel g q r) = line.Cancel g q r
 
 -- The r of a remainder has no place in the text.
 abbrev pub status_line : LeafStatus → LogLine
@@ -35,6 +36,8 @@ list_lines p = map line.Eq p.eqs ++ map line.Ne p.nes
 
 abbrev pub outcome_lines : Piece → Outcome → List LogLine
 outcome_lines p (outcome.Split f initial) = line.Split f initial ∷ []
+outcome_lines p (outcome.Factor f v) = line.Factor f v ∷ []
+outcome_lines p (outcome.Void j f) = line.Void j f ∷ []
 outcome_lines p (outcome.Close i) = line.Close i ∷ []
 outcome_lines p (outcome.Clash i j) = line.Clash i j ∷ []
 outcome_lines p (outcome.System chain s) = line.System ∷ (list_lines p ++ (map line.Chain chain ++ status_line s ∷ []))
@@ -83,6 +86,8 @@ ListsNone p = (p.eqs ≡ []) × (p.nes ≡ [])
 -- The lists stand only behind a system and an open node, and the r of a remainder is what the chain leaves.
 abbrev pub OutcomeWritten : List Polynomial → Piece → Outcome → Type 0
 OutcomeWritten cons p (outcome.Split f initial) = ListsNone p
+OutcomeWritten cons p (outcome.Factor f v) = ListsNone p
+OutcomeWritten cons p (outcome.Void j f) = ListsNone p
 OutcomeWritten cons p (outcome.Close i) = ListsNone p
 OutcomeWritten cons p (outcome.Clash i j) = ListsNone p
 OutcomeWritten cons p (outcome.System chain s) = StatusWritten cons chain s

@@ -11,8 +11,8 @@ use Rattle.proof_steps.specs.declared.step.Step.TheVariants as step
 use Rattle.verdicts.specs.declared.verdict.Verdict.{Verdict}
 use Rattle.verdicts.specs.declared.verdict.Verdict.TheVariants as verdict
 use Rattle.proof_log.specs.declared.log.Proof.{Proof}
-use Rattle.proof_log.specs.declared.line_writing.Rest.{Rest}
-use Rattle.proof_log.specs.declared.line_writing.Rest.TheVariants as rest
+use Rattle.proof_log.specs.declared.line_writing.Lent.{Lent}
+use Rattle.proof_log.specs.declared.line_writing.Lent.TheVariants as loan
 
 abbrev pub IsOver : ℕ → Polynomial → Type 0
 IsOver n p = IsTrue (is_over n p)
@@ -21,6 +21,7 @@ abbrev pub StepIsOver : ℕ → Step → Type 0
 StepIsOver n (step.Drop i) = Unit {0}
 StepIsOver n (step.Red g f m r) = IsOver n r
 StepIsOver n (step.Tail f r) = IsOver n r
+StepIsOver n (step.Cancel g q r) = IsOver n r
 
 abbrev pub ChainIsOver : ℕ → ChainStep → Type 0
 ChainIsOver n c = IsOver n c.r
@@ -28,6 +29,8 @@ ChainIsOver n c = IsOver n c.r
 -- The polynomial of a remainder is not written.
 abbrev pub OutcomeIsOver : ℕ → Outcome → Type 0
 OutcomeIsOver n (outcome.Split f initial) = IsOver n initial
+OutcomeIsOver n (outcome.Factor f v) = IsOver n v
+OutcomeIsOver n (outcome.Void j f) = Unit {0}
 OutcomeIsOver n (outcome.Close i) = Unit {0}
 OutcomeIsOver n (outcome.Clash i j) = Unit {0}
 OutcomeIsOver n (outcome.System chain s) = All (ChainIsOver n) chain
@@ -46,12 +49,12 @@ VerdictIsOver n (verdict.NotProved path k r) = IsOver n r
 VerdictIsOver n (verdict.Degenerate path) = Unit {0}
 VerdictIsOver n (verdict.Left path why) = Unit {0}
 
-abbrev pub RestIsOver : ℕ → Rest → Type 0
-RestIsOver n rest.Nothing = Unit {0}
-RestIsOver n (rest.Poly p) = IsOver n p.now
-RestIsOver n (rest.Names names) = Unit {0}
-RestIsOver n (rest.Tried what) = Unit {0}
-RestIsOver n (rest.Told v) = VerdictIsOver n v.now
+abbrev pub LentIsOver : ℕ → Lent → Type 0
+LentIsOver n loan.Nothing = Unit {0}
+LentIsOver n (loan.Poly p) = IsOver n p.now
+LentIsOver n (loan.Names names) = Unit {0}
+LentIsOver n (loan.Tried what) = Unit {0}
+LentIsOver n (loan.Told v) = VerdictIsOver n v.now
 
 pub record ProblemIsOwn (p : Problem) : Type 0 where
   pub hyps : All (IsOver (length p.vars)) p.hyps

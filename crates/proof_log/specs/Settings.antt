@@ -19,7 +19,9 @@ abbrev pub attempt_within : Numbers → Attempt → Bool
 attempt_within most (attempt.Drop i) = nat_le i most.indices
 attempt_within most (attempt.Red g f) = nat_le g most.indices && nat_le f most.indices
 attempt_within most (attempt.Tail f) = nat_le f most.indices
+attempt_within most (attempt.Cancel g q) = nat_le g most.indices && nat_le q most.indices
 attempt_within most (attempt.Split f) = nat_le f most.indices
+attempt_within most (attempt.Factor f) = nat_le f most.indices
 
 -- The numbers of a line are within those, and a hypothesis is one of those that may still come.
 abbrev pub is_within : Numbers → (hyps : ℕ) → LogLine → Bool
@@ -34,9 +36,12 @@ is_within most hyps (line.Node path) = true
 is_within most hyps (line.Drop i) = nat_le i most.indices
 is_within most hyps (line.Red g f m r) = nat_le g most.indices && nat_le f most.indices
 is_within most hyps (line.Tail f r) = nat_le f most.indices
+is_within most hyps (line.Cancel g q r) = nat_le g most.indices && nat_le q most.indices
 is_within most hyps (line.Split f initial) = nat_le f most.indices
+is_within most hyps (line.Factor f v) = nat_le f most.indices
 is_within most hyps (line.Close i) = nat_le i most.indices
 is_within most hyps (line.Clash i j) = nat_le i most.indices && nat_le j most.indices
+is_within most hyps (line.Void j f) = nat_le j most.indices && nat_le f most.indices
 is_within most hyps line.System = true
 is_within most hyps (line.Chain c) = nat_le c.f most.indices
 is_within most hyps line.Proved = true
@@ -50,6 +55,14 @@ is_within most hyps line.End = true
 
 -- ---- the lines of the first version
 
+abbrev pub is_first_attempt : Attempt → Bool
+is_first_attempt (attempt.Drop i) = true
+is_first_attempt (attempt.Red g f) = true
+is_first_attempt (attempt.Tail f) = true
+is_first_attempt (attempt.Cancel g q) = false
+is_first_attempt (attempt.Split f) = true
+is_first_attempt (attempt.Factor f) = false
+
 abbrev pub is_first : LogLine → Bool
 is_first (line.Head version) = true
 is_first (line.Fuel fuel) = false
@@ -62,15 +75,18 @@ is_first (line.Node path) = true
 is_first (line.Drop i) = true
 is_first (line.Red g f m r) = true
 is_first (line.Tail f r) = true
+is_first (line.Cancel g q r) = false
 is_first (line.Split f initial) = true
+is_first (line.Factor f v) = false
 is_first (line.Close i) = true
 is_first (line.Clash i j) = true
+is_first (line.Void j f) = false
 is_first line.System = true
 is_first (line.Chain c) = true
 is_first line.Proved = true
 is_first (line.Remainder k) = true
 is_first (line.Unreduced k why f) = true
-is_first (line.Open why what) = true
+is_first (line.Open why what) = is_first_attempt what
 is_first (line.Eq p) = true
 is_first (line.Ne p) = true
 is_first (line.Verdict v) = true
@@ -103,9 +119,12 @@ setting_after s (line.Node path) = s
 setting_after s (line.Drop i) = s
 setting_after s (line.Red g f m r) = s
 setting_after s (line.Tail f r) = s
+setting_after s (line.Cancel g q r) = s
 setting_after s (line.Split f initial) = s
+setting_after s (line.Factor f v) = s
 setting_after s (line.Close i) = s
 setting_after s (line.Clash i j) = s
+setting_after s (line.Void j f) = s
 setting_after s line.System = s
 setting_after s (line.Chain c) = s
 setting_after s line.Proved = s

@@ -23,8 +23,8 @@ use Rattle.proof_log.specs.declared.line.LineWord.{LineWord}
 use Rattle.proof_log.specs.declared.line.LineWord.TheVariants as word
 pub use Rattle.proof_log.specs.declared.field.Field.{Field}
 pub use Rattle.proof_log.specs.declared.field.Field.TheVariants.{Version, Amount, Proofs, Conclusion, Index, Multiplier, Letters, Why}
-pub use Rattle.proof_log.specs.declared.tail.Tail.{Tail}
-pub use Rattle.proof_log.specs.declared.tail.Tail.TheVariants.{Nothing, Poly, Names, Tried, Told}
+pub use Rattle.proof_log.specs.declared.rest.Rest.{Rest}
+pub use Rattle.proof_log.specs.declared.rest.Rest.TheVariants.{Nothing, Poly, Names, Tried, Told}
 
 -- ---- small fields: without a blank, and never empty
 
@@ -83,13 +83,17 @@ abbrev pub attempt_word : Attempt → List ℕ
 attempt_word (attempt.Drop i) = codes "drop"
 attempt_word (attempt.Red g f) = codes "red"
 attempt_word (attempt.Tail f) = codes "tail"
+attempt_word (attempt.Cancel g q) = codes "cancel"
 attempt_word (attempt.Split f) = codes "split"
+attempt_word (attempt.Factor f) = codes "factor"
 
 abbrev pub attempt_fields : Attempt → List Field
 attempt_fields (attempt.Drop i) = Index i ∷ []
 attempt_fields (attempt.Red g f) = Index g ∷ Index f ∷ []
 attempt_fields (attempt.Tail f) = Index f ∷ []
+attempt_fields (attempt.Cancel g q) = Index g ∷ Index q ∷ []
 attempt_fields (attempt.Split f) = Index f ∷ []
+attempt_fields (attempt.Factor f) = Index f ∷ []
 
 -- Polynomials, each behind a `; `.
 abbrev pub more_text : List VarName → List Polynomial → List ℕ
@@ -109,12 +113,12 @@ verdict_text names (verdict.Left path why) = codes "left" ++ fields_text (Letter
 abbrev pub names_text : List VarName → List ℕ
 names_text ns = flat_map (λ n. space ∷ variable_text n) ns
 
-abbrev pub tail_text : List VarName → Tail → List ℕ
-tail_text names Nothing = []
-tail_text names (Poly p) = space ∷ poly_text names p
-tail_text names (Names ns) = names_text ns
-tail_text names (Tried what) = space ∷ (attempt_word what ++ fields_text (attempt_fields what))
-tail_text names (Told v) = space ∷ verdict_text names v
+abbrev pub rest_text : List VarName → Rest → List ℕ
+rest_text names Nothing = []
+rest_text names (Poly p) = space ∷ poly_text names p
+rest_text names (Names ns) = names_text ns
+rest_text names (Tried what) = space ∷ (attempt_word what ++ fields_text (attempt_fields what))
+rest_text names (Told v) = space ∷ verdict_text names v
 
 abbrev pub FitsVerdict : List VarName → Verdict → Type 0
 FitsVerdict names verdict.Proved = Unit {0}
@@ -123,21 +127,21 @@ FitsVerdict names (verdict.NotProved path k r) = (length path ≤ MOST_LETTERS) 
 FitsVerdict names (verdict.Degenerate path) = length path ≤ MOST_LETTERS
 FitsVerdict names (verdict.Left path why) = length path ≤ MOST_LETTERS
 
-abbrev pub FitsTail : List VarName → Tail → Type 0
-FitsTail names Nothing = Unit {0}
-FitsTail names (Poly p) = FitsPoly names p
-FitsTail names (Names ns) = IsTrue (are_variables ns)
-FitsTail names (Tried what) = FitFields (attempt_fields what)
-FitsTail names (Told v) = FitsVerdict names v
+abbrev pub FitsRest : List VarName → Rest → Type 0
+FitsRest names Nothing = Unit {0}
+FitsRest names (Poly p) = FitsPoly names p
+FitsRest names (Names ns) = IsTrue (are_variables ns)
+FitsRest names (Tried what) = FitFields (attempt_fields what)
+FitsRest names (Told v) = FitsVerdict names v
 
 -- ---- rows
 pub record Row : Type 0 where
   pub word : LineWord
   pub fields : List Field
-  pub tail : Tail
+  pub rest : Rest
 
-abbrev pub row : LineWord → List Field → Tail → Row
-row w fs t = record { word = w; fields = fs; tail = t }
+abbrev pub row : LineWord → List Field → Rest → Row
+row w fs t = record { word = w; fields = fs; rest = t }
 
 abbrev pub row_of : LogLine → Row
 row_of (line.Head v) = row word.Head (Version v ∷ []) Nothing
@@ -151,9 +155,12 @@ row_of (line.Node path) = row word.Node (Letters path ∷ []) Nothing
 row_of (line.Drop i) = row word.Drop (Index i ∷ []) Nothing
 row_of (line.Red g f m r) = row word.Red (Index g ∷ Index f ∷ Multiplier m ∷ []) (Poly r)
 row_of (line.Tail f r) = row word.Tail (Index f ∷ []) (Poly r)
+row_of (line.Cancel g q r) = row word.Cancel (Index g ∷ Index q ∷ []) (Poly r)
 row_of (line.Split f initial) = row word.Split (Index f ∷ []) (Poly initial)
+row_of (line.Factor f v) = row word.Factor (Index f ∷ []) (Poly v)
 row_of (line.Close i) = row word.Close (Index i ∷ []) Nothing
 row_of (line.Clash i j) = row word.Clash (Index i ∷ Index j ∷ []) Nothing
+row_of (line.Void j f) = row word.Void (Index j ∷ Index f ∷ []) Nothing
 row_of line.System = row word.System [] Nothing
 row_of (line.Chain c) = row word.Step (Conclusion c.k ∷ Index c.f ∷ Multiplier c.m ∷ []) (Poly c.r)
 row_of line.Proved = row word.Proved [] Nothing
@@ -177,9 +184,12 @@ word_text word.Node = codes "node"
 word_text word.Drop = codes "drop"
 word_text word.Red = codes "red"
 word_text word.Tail = codes "tail"
+word_text word.Cancel = codes "cancel"
 word_text word.Split = codes "split"
+word_text word.Factor = codes "factor"
 word_text word.Close = codes "close"
 word_text word.Clash = codes "clash"
+word_text word.Void = codes "void"
 word_text word.System = codes "system"
 word_text word.Step = codes "step"
 word_text word.Proved = codes "proved"
@@ -193,11 +203,11 @@ word_text word.End = codes "end"
 
 -- The text of a line, without its end.
 abbrev pub line_text : List VarName → LogLine → List ℕ
-line_text names l = word_text (row_of l).word ++ (fields_text (row_of l).fields ++ tail_text names (row_of l).tail)
+line_text names l = word_text (row_of l).word ++ (fields_text (row_of l).fields ++ rest_text names (row_of l).rest)
 
 -- What may stand in a line over these variables.
 abbrev pub IsLine : List VarName → LogLine → Type 0
-IsLine names l = FitFields (row_of l).fields × FitsTail names (row_of l).tail
+IsLine names l = FitFields (row_of l).fields × FitsRest names (row_of l).rest
 
 -- The variables behind a line.
 abbrev pub names_after : List VarName → LogLine → List VarName
@@ -212,9 +222,12 @@ names_after names (line.Node path) = names
 names_after names (line.Drop i) = names
 names_after names (line.Red g f m r) = names
 names_after names (line.Tail f r) = names
+names_after names (line.Cancel g q r) = names
 names_after names (line.Split f initial) = names
+names_after names (line.Factor f v) = names
 names_after names (line.Close i) = names
 names_after names (line.Clash i j) = names
+names_after names (line.Void j f) = names
 names_after names line.System = names
 names_after names (line.Chain c) = names
 names_after names line.Proved = names

@@ -18,24 +18,24 @@ use Rattle.proof_log.specs.declared.line.LogLine.TheVariants as line
 use Rattle.proof_log.specs.declared.line.LineWord.{LineWord}
 use Rattle.proof_log.specs.declared.line.LineWord.TheVariants as word
 use Rattle.proof_log.specs.declared.log.Proof.{Proof}
-use Rattle.proof_log.specs.declared.line_writing.Rest.{Rest}
-use Rattle.proof_log.specs.declared.line_writing.Rest.TheVariants as rest
+use Rattle.proof_log.specs.declared.line_writing.Lent.{Lent}
+use Rattle.proof_log.specs.declared.line_writing.Lent.TheVariants as loan
 use Rattle.proof_log.specs.Lines.{step_line, status_line}
 use Rattle.poly_model.specs.declared.limits.Reason.{Reason}
 use Rattle.proof_steps.specs.declared.step.Attempt.{Attempt}
-use Rattle.proof_log.specs.Text.{Row, row, row_of, Tail, Nothing, Poly, Names, Tried, Told, word_text, fields_text, tail_text}
+use Rattle.proof_log.specs.Text.{Row, row, row_of, Rest, Nothing, Poly, Names, Tried, Told, word_text, fields_text, rest_text}
 
 -- What is lent for the rest of a line.
-abbrev pub lent : Rest → Tail
-lent rest.Nothing = Nothing
-lent (rest.Poly p) = Poly p.now
-lent (rest.Names names) = Names names.now
-lent (rest.Tried what) = Tried what
-lent (rest.Told v) = Told v.now
+abbrev pub lent : Lent → Rest
+lent loan.Nothing = Nothing
+lent (loan.Poly p) = Poly p.now
+lent (loan.Names names) = Names names.now
+lent (loan.Tried what) = Tried what
+lent (loan.Told v) = Told v.now
 
 -- A row with the end of its line.
 abbrev pub row_text : List VarName → Row → List ℕ
-row_text names r = word_text r.word ++ (fields_text r.fields ++ tail_text names r.tail) ++ line_feed ∷ []
+row_text names r = word_text r.word ++ (fields_text r.fields ++ rest_text names r.rest) ++ line_feed ∷ []
 
 abbrev pub whole_line : List VarName → LogLine → List ℕ
 whole_line names l = row_text names (row_of l)
@@ -64,6 +64,8 @@ open_text names p why what = whole_line names (line.Open why what) ++ lists_text
 
 abbrev pub outcome_text : List VarName → Piece → Outcome → List ℕ
 outcome_text names p (outcome.Split f initial) = whole_line names (line.Split f initial)
+outcome_text names p (outcome.Factor f v) = whole_line names (line.Factor f v)
+outcome_text names p (outcome.Void j f) = whole_line names (line.Void j f)
 outcome_text names p (outcome.Close i) = whole_line names (line.Close i)
 outcome_text names p (outcome.Clash i j) = whole_line names (line.Clash i j)
 outcome_text names p (outcome.System chain s) = system_text names p chain s

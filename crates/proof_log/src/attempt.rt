@@ -17,7 +17,9 @@ pub enum AttemptWord {
     Drop,
     Red,
     Tail,
+    Cancel,
     Split,
+    Factor,
 }
 
 fn word_of(text: &[u8]) -> Option<AttemptWord>
@@ -30,8 +32,12 @@ fn word_of(text: &[u8]) -> Option<AttemptWord>
         Some(AttemptWord::Red)
     } else if text == b"tail".as_slice() {
         Some(AttemptWord::Tail)
+    } else if text == b"cancel".as_slice() {
+        Some(AttemptWord::Cancel)
     } else if text == b"split".as_slice() {
         Some(AttemptWord::Split)
+    } else if text == b"factor".as_slice() {
+        Some(AttemptWord::Factor)
     } else {
         None
     }
@@ -44,7 +50,9 @@ fn kinds_of(word: AttemptWord) -> &'static [FieldKind]
         AttemptWord::Drop => &[FieldKind::Index],
         AttemptWord::Red => &[FieldKind::Index, FieldKind::Index],
         AttemptWord::Tail => &[FieldKind::Index],
+        AttemptWord::Cancel => &[FieldKind::Index, FieldKind::Index],
         AttemptWord::Split => &[FieldKind::Index],
+        AttemptWord::Factor => &[FieldKind::Index],
     }
 }
 
@@ -58,7 +66,9 @@ fn attempt_by(word: AttemptWord, fields: &[Field]) -> Option<Attempt>
         (AttemptWord::Drop, [Field::Index(i)]) => Some(Attempt::Drop(*i)),
         (AttemptWord::Red, [Field::Index(g), Field::Index(f)]) => Some(Attempt::Red(*g, *f)),
         (AttemptWord::Tail, [Field::Index(f)]) => Some(Attempt::Tail(*f)),
+        (AttemptWord::Cancel, [Field::Index(g), Field::Index(q)]) => Some(Attempt::Cancel(*g, *q)),
         (AttemptWord::Split, [Field::Index(f)]) => Some(Attempt::Split(*f)),
+        (AttemptWord::Factor, [Field::Index(f)]) => Some(Attempt::Factor(*f)),
         _ => None,
     }
 }

@@ -1,5 +1,5 @@
 ghost use Rattle.std.specs.Prelude.{◌≡◌, ◌≢◌, ◌∷◌, [], List, IfSome, IfNone, IfOk, IsErrOf};
-ghost use Rattle.proof_log.specs.Kinds.{AreAt, field_kinds, tail_kind_of, tail_kind, words};
+ghost use Rattle.proof_log.specs.Kinds.{AreAt, field_kinds, rest_kind_of, rest_kind, words};
 ghost use Rattle.proof_log.specs.Text.{row, row_of, word_text, line_text, IsLine};
 ghost use Rattle.proof_log.specs.declared.fault.LineFault.{LineFault};
 ghost use Rattle.proof_log.specs.declared.line.LineWord.{LineWord};
@@ -9,7 +9,7 @@ use crate::cut::cut;
 use crate::fault::LineFault;
 use crate::field::{Field, FieldKind, fields_at};
 use crate::line::{LineWord, LogLine};
-use crate::tail::{Tail, TailKind, tail_of};
+use crate::rest::{Rest, RestKind, rest_of};
 use crate::words::word_text;
 use poly_model::{OwnedPoly, Vars};
 use proof_steps::ChainStep;
@@ -26,11 +26,14 @@ fn all_words() -> &'static [LineWord]
         LineWord::Hyp,
         LineWord::Ne,
         LineWord::Tail,
+        LineWord::Cancel,
         LineWord::Split,
+        LineWord::Factor,
         LineWord::Node,
         LineWord::Drop,
         LineWord::Close,
         LineWord::Clash,
+        LineWord::Void,
         LineWord::System,
         LineWord::Proved,
         LineWord::Con,
@@ -71,8 +74,10 @@ fn kinds_of(word: LineWord) -> &'static [FieldKind]
         LineWord::Proves | LineWord::Prove => &[FieldKind::Proofs],
         LineWord::Node => &[FieldKind::Letters],
         LineWord::Drop | LineWord::Tail | LineWord::Split | LineWord::Close => &[FieldKind::Index],
+        LineWord::Factor => &[FieldKind::Index],
         LineWord::Red => &[FieldKind::Index, FieldKind::Index, FieldKind::Multiplier],
-        LineWord::Clash => &[FieldKind::Index, FieldKind::Index],
+        LineWord::Clash | LineWord::Cancel => &[FieldKind::Index, FieldKind::Index],
+        LineWord::Void => &[FieldKind::Index, FieldKind::Index],
         LineWord::Step => &[
             FieldKind::Conclusion,
             FieldKind::Index,
@@ -86,28 +91,30 @@ fn kinds_of(word: LineWord) -> &'static [FieldKind]
     }
 }
 
-fn rest_of(word: LineWord) -> TailKind
-    ensures { result ≡ tail_kind word }
+fn rest_kind(word: LineWord) -> RestKind
+    ensures { result ≡ rest_kind word }
 {
     match word {
-        LineWord::Vars => TailKind::Names,
-        LineWord::Hyp | LineWord::Con | LineWord::Eq | LineWord::Ne => TailKind::Poly,
-        LineWord::Red | LineWord::Tail | LineWord::Split | LineWord::Step => TailKind::Poly,
-        LineWord::Open => TailKind::Tried,
-        LineWord::Verdict => TailKind::Told,
-        LineWord::Head | LineWord::Proves | LineWord::Prove => TailKind::Nothing,
-        LineWord::Node | LineWord::Drop | LineWord::Close => TailKind::Nothing,
-        LineWord::Clash | LineWord::System | LineWord::Proved => TailKind::Nothing,
-        LineWord::Fuel => TailKind::Nothing,
-        LineWord::Remainder | LineWord::Unreduced | LineWord::End => TailKind::Nothing,
+        LineWord::Vars => RestKind::Names,
+        LineWord::Hyp | LineWord::Con | LineWord::Eq | LineWord::Ne => RestKind::Poly,
+        LineWord::Red | LineWord::Tail | LineWord::Split | LineWord::Step => RestKind::Poly,
+        LineWord::Cancel | LineWord::Factor => RestKind::Poly,
+        LineWord::Open => RestKind::Tried,
+        LineWord::Verdict => RestKind::Told,
+        LineWord::Head | LineWord::Proves | LineWord::Prove => RestKind::Nothing,
+        LineWord::Node | LineWord::Drop | LineWord::Close => RestKind::Nothing,
+        LineWord::Clash | LineWord::Void => RestKind::Nothing,
+        LineWord::System | LineWord::Proved => RestKind::Nothing,
+        LineWord::Fuel => RestKind::Nothing,
+        LineWord::Remainder | LineWord::Unreduced | LineWord::End => RestKind::Nothing,
     }
 }
 
 /// The line of a word and one field, where nothing else stands.
 fn field_line(word: LineWord, field: Field) -> Option<LogLine>
-    ensures some { IfSome result (λ l. row_of l ≡ row word (field ∷ []) Tail.Nothing) }
+    ensures some { IfSome result (λ l. row_of l ≡ row word (field ∷ []) Rest.Nothing) }
     ensures none { IfNone result (AreAt (field_kinds word) (field ∷ [])
-        → TailKind.Nothing ≡ tail_kind word → ⊥) }
+        → RestKind.Nothing ≡ rest_kind word → ⊥) }
 {
     match (word, field) {
         (LineWord::Head, Field::Version(v)) => Some(LogLine::Head(v)),
@@ -124,13 +131,14 @@ fn field_line(word: LineWord, field: Field) -> Option<LogLine>
 
 /// The line of a word and its fields, where nothing else stands.
 fn bare_line(word: LineWord, fields: &[Field]) -> Option<LogLine>
-    ensures some { IfSome result (λ l. row_of l ≡ row word fields.now Tail.Nothing) }
+    ensures some { IfSome result (λ l. row_of l ≡ row word fields.now Rest.Nothing) }
     ensures none { IfNone result (AreAt (field_kinds word) fields.now
-        → TailKind.Nothing ≡ tail_kind word → ⊥) }
+        → RestKind.Nothing ≡ rest_kind word → ⊥) }
 {
     match (word, fields) {
         (_, [field]) => field_line(word, *field),
         (LineWord::Clash, [Field::Index(i), Field::Index(j)]) => Some(LogLine::Clash(*i, *j)),
+        (LineWord::Void, [Field::Index(j), Field::Index(f)]) => Some(LogLine::Void(*j, *f)),
         (LineWord::Unreduced, [Field::Conclusion(k), Field::Why(reason), Field::Index(f)]) => {
             Some(LogLine::Unreduced {
                 k: *k,
@@ -147,9 +155,9 @@ fn bare_line(word: LineWord, fields: &[Field]) -> Option<LogLine>
 
 /// The line of a word and a polynomial.
 fn plain_line(word: LineWord, p: OwnedPoly) -> Option<LogLine>
-    ensures some { IfSome result (λ l. row_of l ≡ row word [] (Tail.Poly p)) }
+    ensures some { IfSome result (λ l. row_of l ≡ row word [] (Rest.Poly p)) }
     ensures none { IfNone result (AreAt (field_kinds word) []
-        → TailKind.Poly ≡ tail_kind word → ⊥) }
+        → RestKind.Poly ≡ rest_kind word → ⊥) }
 {
     match word {
         LineWord::Hyp => Some(LogLine::Hyp(p)),
@@ -162,9 +170,9 @@ fn plain_line(word: LineWord, p: OwnedPoly) -> Option<LogLine>
 
 /// The line of a word, its fields and a polynomial.
 fn poly_line(word: LineWord, fields: &[Field], p: OwnedPoly) -> Option<LogLine>
-    ensures some { IfSome result (λ l. row_of l ≡ row word fields.now (Tail.Poly p)) }
+    ensures some { IfSome result (λ l. row_of l ≡ row word fields.now (Rest.Poly p)) }
     ensures none { IfNone result (AreAt (field_kinds word) fields.now
-        → TailKind.Poly ≡ tail_kind word → ⊥) }
+        → RestKind.Poly ≡ rest_kind word → ⊥) }
 {
     match (word, fields) {
         (_, []) => plain_line(word, p),
@@ -177,7 +185,13 @@ fn poly_line(word: LineWord, fields: &[Field], p: OwnedPoly) -> Option<LogLine>
             })
         }
         (LineWord::Tail, [Field::Index(f)]) => Some(LogLine::Tail { f: *f, r: p }),
+        (LineWord::Cancel, [Field::Index(g), Field::Index(q)]) => Some(LogLine::Cancel {
+            g: *g,
+            q: *q,
+            r: p,
+        }),
         (LineWord::Split, [Field::Index(f)]) => Some(LogLine::Split { f: *f, initial: p }),
+        (LineWord::Factor, [Field::Index(f)]) => Some(LogLine::Factor { f: *f, v: p }),
         (LineWord::Step, [Field::Conclusion(k), Field::Index(f), Field::Multiplier(m)]) => {
             Some(LogLine::Chain(ChainStep {
                 k: *k,
@@ -191,26 +205,26 @@ fn poly_line(word: LineWord, fields: &[Field], p: OwnedPoly) -> Option<LogLine>
 }
 
 /// The line of a word, its fields and its rest.
-fn line_of(word: LineWord, fields: &[Field], tail: Tail) -> Option<LogLine>
-    ensures some { IfSome result (λ l. row_of l ≡ row word fields.now tail) }
+fn line_of(word: LineWord, fields: &[Field], rest: Rest) -> Option<LogLine>
+    ensures some { IfSome result (λ l. row_of l ≡ row word fields.now rest) }
     ensures none { IfNone result (AreAt (field_kinds word) fields.now
-        → tail_kind_of tail ≡ tail_kind word → ⊥) }
+        → rest_kind_of rest ≡ rest_kind word → ⊥) }
 {
-    match tail {
-        Tail::Nothing => bare_line(word, fields),
-        Tail::Poly(p) => poly_line(word, fields, p),
-        Tail::Names(vars) => match (word, fields) {
+    match rest {
+        Rest::Nothing => bare_line(word, fields),
+        Rest::Poly(p) => poly_line(word, fields, p),
+        Rest::Names(vars) => match (word, fields) {
             (LineWord::Vars, []) => Some(LogLine::Vars(vars)),
             _ => None,
         },
-        Tail::Tried(what) => match (word, fields) {
+        Rest::Tried(what) => match (word, fields) {
             (LineWord::Open, [Field::Why(reason)]) => Some(LogLine::Open {
                 reason: *reason,
                 what,
             }),
             _ => None,
         },
-        Tail::Told(verdict) => match (word, fields) {
+        Rest::Told(verdict) => match (word, fields) {
             (LineWord::Verdict, []) => Some(LogLine::Verdict(verdict)),
             _ => None,
         },
@@ -228,8 +242,8 @@ pub fn read_line(alloc: Global, text: &[u8], vars: &Vars) -> Result<LogLine, Lin
         return Err(LineFault::Malformed);
     };
     match fields_at(alloc, kinds_of(word), behind) {
-        Ok((fields, after)) => match tail_of(alloc, rest_of(word), after, vars) {
-            Ok(tail) => match line_of(word, &fields, tail) {
+        Ok((fields, after)) => match rest_of(alloc, rest_kind(word), after, vars) {
+            Ok(rest) => match line_of(word, &fields, rest) {
                 Some(line) => Ok(line),
                 None => Err(LineFault::Malformed),
             },

@@ -6,8 +6,8 @@ ghost use Rattle.desk_io.specs.Bytes.{Writes};
 ghost use Rattle.desk_io.specs.Causes.{HasCause};
 ghost use Rattle.poly_model.specs.Content.{is_negative};
 ghost use Rattle.poly_text.specs.Text.{poly_text, variable_text};
-ghost use Rattle.proof_log.specs.Own.{IsOver, VerdictIsOver, RestIsOver};
-ghost use Rattle.proof_log.specs.Text.{letter_text, minus_where, field_text, fields_text, attempt_word, attempt_fields, more_text, polys_text, verdict_text, tail_text, names_text, row};
+ghost use Rattle.proof_log.specs.Own.{IsOver, VerdictIsOver, LentIsOver};
+ghost use Rattle.proof_log.specs.Text.{letter_text, minus_where, field_text, fields_text, attempt_word, attempt_fields, more_text, polys_text, verdict_text, rest_text, names_text, row};
 ghost use Rattle.proof_log.specs.Writing.{lent, row_text};
 
 use crate::field::Field;
@@ -22,7 +22,7 @@ use verdicts::Verdict;
 
 /// The rest of a line behind its small fields, lent by its owner.
 #[derive(Clone, Copy)]
-pub enum Rest<'a> {
+pub enum Lent<'a> {
     Nothing,
     Poly(&'a OwnedPoly),
     Names(&'a Vars),
@@ -135,7 +135,11 @@ fn write_attempt<S: Sink>(what: Attempt, pen: &mut Pen, sink: &mut S) -> Result<
         Attempt::Drop(i) => write_worded(b"drop", &[Field::Index(i)], pen, sink),
         Attempt::Red(g, f) => write_worded(b"red", &[Field::Index(g), Field::Index(f)], pen, sink),
         Attempt::Tail(f) => write_worded(b"tail", &[Field::Index(f)], pen, sink),
+        Attempt::Cancel(g, q) => {
+            write_worded(b"cancel", &[Field::Index(g), Field::Index(q)], pen, sink)
+        }
         Attempt::Split(f) => write_worded(b"split", &[Field::Index(f)], pen, sink),
+        Attempt::Factor(f) => write_worded(b"factor", &[Field::Index(f)], pen, sink),
     }
 }
 
@@ -297,22 +301,22 @@ fn write_told<S: Sink>(
 }
 
 fn write_rest<S: Sink>(
-    rest: Rest<'_>,
+    rest: Lent<'_>,
     vars: &Vars,
     pen: &mut Pen,
     sink: &mut S,
 ) -> Result<(), Failed>
-    requires { RestIsOver (length vars.now) rest }
+    requires { LentIsOver (length vars.now) rest }
     ensures bytes { Writes (S.written sink.old) (S.written sink.new) pen.old pen.new result
-        (tail_text vars.now (lent rest.entry)) }
+        (rest_text vars.now (lent rest.entry)) }
     ensures cause { HasCause (S.faults sink.old) (S.faults sink.new) result }
 {
     match rest {
-        Rest::Nothing => Ok(()),
-        Rest::Poly(p) => write_poly(b" ", p, vars, pen, sink),
-        Rest::Names(names) => write_names(names, pen, sink),
-        Rest::Tried(what) => write_tried(what, pen, sink),
-        Rest::Told(verdict) => write_told(verdict, vars, pen, sink),
+        Lent::Nothing => Ok(()),
+        Lent::Poly(p) => write_poly(b" ", p, vars, pen, sink),
+        Lent::Names(names) => write_names(names, pen, sink),
+        Lent::Tried(what) => write_tried(what, pen, sink),
+        Lent::Told(verdict) => write_told(verdict, vars, pen, sink),
     }
 }
 
@@ -320,12 +324,12 @@ fn write_rest<S: Sink>(
 pub fn write_row<S: Sink>(
     word: LineWord,
     fields: &[Field],
-    rest: Rest<'_>,
+    rest: Lent<'_>,
     vars: &Vars,
     pen: &mut Pen,
     sink: &mut S,
 ) -> Result<(), Failed>
-    requires { RestIsOver (length vars.now) rest }
+    requires { LentIsOver (length vars.now) rest }
     ensures bytes { Writes (S.written sink.old) (S.written sink.new) pen.old pen.new result
         (row_text vars.now (row word fields.now (lent rest.entry))) }
     ensures cause { HasCause (S.faults sink.old) (S.faults sink.new) result }

@@ -56,6 +56,7 @@ fn stands(word: LineWord, part: Part) -> bool
         LineWord::Node => matches!(part, Part::Cons | Part::Pieces | Part::Eqs | Part::Nes),
         LineWord::Drop | LineWord::Red | LineWord::Tail => matches!(part, Part::Steps),
         LineWord::Split | LineWord::Close | LineWord::Clash => matches!(part, Part::Steps),
+        LineWord::Cancel | LineWord::Factor | LineWord::Void => matches!(part, Part::Steps),
         LineWord::System | LineWord::Open => matches!(part, Part::Steps),
         LineWord::Step | LineWord::Proved | LineWord::Remainder | LineWord::Unreduced => {
             matches!(part, Part::Eqs | Part::Nes | Part::Chain)
@@ -76,7 +77,9 @@ fn part_behind(word: LineWord) -> Part
         LineWord::Vars | LineWord::Hyp => Part::Hyps,
         LineWord::Con => Part::Cons,
         LineWord::Node | LineWord::Drop | LineWord::Red | LineWord::Tail => Part::Steps,
+        LineWord::Cancel => Part::Steps,
         LineWord::Split | LineWord::Close | LineWord::Clash => Part::Pieces,
+        LineWord::Factor | LineWord::Void => Part::Pieces,
         LineWord::Proved | LineWord::Remainder | LineWord::Unreduced => Part::Pieces,
         LineWord::System | LineWord::Open | LineWord::Eq => Part::Eqs,
         LineWord::Ne => Part::Nes,
@@ -192,6 +195,7 @@ fn counted(place: Place, line: &LogLine) -> Option<Place>
         LogLine::Con(_) => con_at(place),
         LogLine::Node(_) => if_whole(place, false),
         LogLine::Split { .. } | LogLine::Close(_) | LogLine::Clash(_, _) => whole_at(place),
+        LogLine::Factor { .. } | LogLine::Void(_, _) => whole_at(place),
         LogLine::Open { .. } => whole_at(place),
         LogLine::System => Some(Place {
             whole: false,
@@ -203,7 +207,8 @@ fn counted(place: Place, line: &LogLine) -> Option<Place>
         LogLine::Verdict(_) => if_whole(place, true),
         LogLine::End => { if place.left == 0 { Some(place) } else { None } }
         LogLine::Vars(_) | LogLine::Drop(_) | LogLine::Red { .. } => Some(place),
-        LogLine::Tail { .. } | LogLine::Eq(_) | LogLine::Ne(_) => Some(place),
+        LogLine::Tail { .. } | LogLine::Cancel { .. } => Some(place),
+        LogLine::Eq(_) | LogLine::Ne(_) => Some(place),
     }
 }
 

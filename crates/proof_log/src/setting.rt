@@ -1,6 +1,6 @@
 // Which lines a log of a version may have, beside the grammar.
 ghost use Rattle.std.specs.Prelude.{◌≡◌};
-ghost use Rattle.proof_log.specs.Settings.{attempt_within, is_first, is_of, is_within, numbers_of, setting_after, unsettled, versioned};
+ghost use Rattle.proof_log.specs.Settings.{attempt_within, is_first, is_first_attempt, is_of, is_within, numbers_of, setting_after, unsettled, versioned};
 
 use crate::limits::MOST_INDEX;
 use crate::line::LogLine;
@@ -41,8 +41,9 @@ fn attempt_within(most: &Numbers, what: Attempt) -> bool
     ensures { result ≡ attempt_within most.now what }
 {
     match what {
-        Attempt::Drop(i) | Attempt::Tail(i) | Attempt::Split(i) => i <= most.indices,
-        Attempt::Red(g, f) => g <= most.indices && f <= most.indices,
+        Attempt::Drop(i) | Attempt::Tail(i) => i <= most.indices,
+        Attempt::Split(f) | Attempt::Factor(f) => f <= most.indices,
+        Attempt::Red(i, j) | Attempt::Cancel(i, j) => i <= most.indices && j <= most.indices,
     }
 }
 
@@ -55,10 +56,11 @@ fn is_within(most: &Numbers, hyps: u8, line: &LogLine) -> bool
         LogLine::Hyp(_) => hyps > 0,
         LogLine::Drop(i) | LogLine::Close(i) => *i <= most.indices,
         LogLine::Tail { f, .. } | LogLine::Split { f, .. } => *f <= most.indices,
-        LogLine::Unreduced { f, .. } => *f <= most.indices,
-        LogLine::Red { g: i, f: j, .. } | LogLine::Clash(i, j) => {
+        LogLine::Factor { f, .. } | LogLine::Unreduced { f, .. } => *f <= most.indices,
+        LogLine::Red { g: i, f: j, .. } | LogLine::Cancel { g: i, q: j, .. } => {
             *i <= most.indices && *j <= most.indices
         }
+        LogLine::Clash(i, j) | LogLine::Void(i, j) => *i <= most.indices && *j <= most.indices,
         LogLine::Chain(step) => step.f <= most.indices,
         LogLine::Open { what, .. } => attempt_within(most, *what),
         LogLine::Head(_) | LogLine::Proves(_) | LogLine::Prove(_) | LogLine::Con(_) => true,
@@ -67,10 +69,21 @@ fn is_within(most: &Numbers, hyps: u8, line: &LogLine) -> bool
     }
 }
 
+fn is_first_attempt(what: Attempt) -> bool
+    ensures { result ≡ is_first_attempt what }
+{
+    !matches!(what, Attempt::Cancel(_, _) | Attempt::Factor(_))
+}
+
 fn is_first(line: &LogLine) -> bool
     ensures { result ≡ is_first line.now }
 {
-    !matches!(line, LogLine::Fuel(_))
+    match line {
+        LogLine::Fuel(_) | LogLine::Cancel { .. } | LogLine::Factor { .. } => false,
+        LogLine::Void(_, _) => false,
+        LogLine::Open { what, .. } => is_first_attempt(*what),
+        _ => true,
+    }
 }
 
 impl Setting {

@@ -1,6 +1,6 @@
 ghost use Rattle.std.specs.Prelude.{◌≡◌, ◌≢◌, ◌++◌, ◌∷◌, List, ℕ, IfSome, IfNone, IfOk, IsErrOf};
 ghost use Rattle.verdicts.specs.declared.verdict.Verdict.{Verdict};
-ghost use Rattle.proof_log.specs.Kinds.{AreAt, verdict_word_of, verdict_word_text, verdict_fields, verdict_kinds, verdict_rest, rest_kind_of, rest_kind_behind, rest_text, FitsRest};
+ghost use Rattle.proof_log.specs.Kinds.{AreAt, verdict_word_of, verdict_word_text, verdict_fields, verdict_kinds, verdict_rest, verdict_rest_kind_of, verdict_rest_kind, verdict_rest_text, FitsVerdictRest};
 ghost use Rattle.proof_log.specs.Text.{FitsVerdict, verdict_text};
 ghost use Rattle.proof_log.specs.declared.told.VerdictWord.{VerdictWord};
 ghost use Rattle.proof_log.specs.declared.told.VerdictRest.{VerdictRest};
@@ -9,7 +9,7 @@ ghost use Rattle.proof_log.specs.declared.fault.LineFault.{LineFault};
 use crate::cut::cut;
 use crate::fault::LineFault;
 use crate::field::{Field, FieldKind, behind_blank, fields_at};
-use crate::tail::{poly_of, polys_of};
+use crate::rest::{poly_of, polys_of};
 use poly_model::{OwnedPoly, Row, Vars};
 use std::alloc::Global;
 use verdicts::Verdict;
@@ -34,7 +34,7 @@ pub enum VerdictRest {
 
 /// The kind of the rest of a verdict.
 #[derive(Clone, Copy, Debug, PartialEq, Eq)]
-pub enum RestKind {
+pub enum VerdictRestKind {
     Nothing,
     Poly,
     Polys,
@@ -71,36 +71,36 @@ fn kinds_of(word: VerdictWord) -> &'static [FieldKind]
     }
 }
 
-fn rest_kind(word: VerdictWord) -> RestKind
-    ensures { result ≡ rest_kind_behind word }
+fn verdict_rest_kind(word: VerdictWord) -> VerdictRestKind
+    ensures { result ≡ verdict_rest_kind word }
 {
     match word {
-        VerdictWord::Proved => RestKind::Nothing,
-        VerdictWord::Under => RestKind::Polys,
-        VerdictWord::NotProved => RestKind::Poly,
-        VerdictWord::Degenerate => RestKind::Nothing,
-        VerdictWord::Left => RestKind::Nothing,
+        VerdictWord::Proved => VerdictRestKind::Nothing,
+        VerdictWord::Under => VerdictRestKind::Polys,
+        VerdictWord::NotProved => VerdictRestKind::Poly,
+        VerdictWord::Degenerate => VerdictRestKind::Nothing,
+        VerdictWord::Left => VerdictRestKind::Nothing,
     }
 }
 
 /// The rest of a verdict.
-fn rest_of(
+fn verdict_rest_of(
     alloc: Global,
-    kind: RestKind,
+    kind: VerdictRestKind,
     text: &[u8],
     vars: &Vars,
 ) -> Result<VerdictRest, LineFault>
-    ensures reads { IfOk result (λ r. (rest_kind_of r ≡ kind) × FitsRest vars.now r
-        × (text.now ≡ rest_text vars.now r)) }
+    ensures reads { IfOk result (λ r. (verdict_rest_kind_of r ≡ kind) × FitsVerdictRest vars.now r
+        × (text.now ≡ verdict_rest_text vars.now r)) }
     ensures refuses { IsErrOf result LineFault.Malformed → (r : VerdictRest)
-        → rest_kind_of r ≡ kind → FitsRest vars.now r → text.now ≢ rest_text vars.now r }
+        → verdict_rest_kind_of r ≡ kind → FitsVerdictRest vars.now r → text.now ≢ verdict_rest_text vars.now r }
 {
     match kind {
-        RestKind::Nothing => match text {
+        VerdictRestKind::Nothing => match text {
             [] => Ok(VerdictRest::Nothing),
             _ => Err(LineFault::Malformed),
         },
-        RestKind::Poly => {
+        VerdictRestKind::Poly => {
             let Some(behind) = behind_blank(text) else {
                 return Err(LineFault::Malformed);
             };
@@ -109,7 +109,7 @@ fn rest_of(
                 Err(fault) => Err(fault),
             }
         }
-        RestKind::Polys => match polys_of(alloc, text, vars) {
+        VerdictRestKind::Polys => match polys_of(alloc, text, vars) {
             Ok(polys) => Ok(VerdictRest::Polys(Row::from_vec(polys))),
             Err(fault) => Err(fault),
         },
@@ -121,7 +121,7 @@ fn verdict_by(word: VerdictWord, fields: &[Field], rest: VerdictRest) -> Option<
     ensures some { IfSome result (λ v. (verdict_word_of v ≡ word)
         × (verdict_fields v ≡ fields.now) × (verdict_rest v ≡ rest)) }
     ensures none { IfNone result (AreAt (verdict_kinds word) fields.now
-        → rest_kind_of rest ≡ rest_kind_behind word → ⊥) }
+        → verdict_rest_kind_of rest ≡ verdict_rest_kind word → ⊥) }
 {
     match (word, fields, rest) {
         (VerdictWord::Proved, [], VerdictRest::Nothing) => Some(Verdict::Proved),
@@ -160,7 +160,7 @@ pub fn verdict_of(alloc: Global, text: &[u8], vars: &Vars) -> Result<Verdict, Li
         return Err(LineFault::Malformed);
     };
     match fields_at(alloc, kinds_of(word), behind) {
-        Ok((fields, after)) => match rest_of(alloc, rest_kind(word), after, vars) {
+        Ok((fields, after)) => match verdict_rest_of(alloc, verdict_rest_kind(word), after, vars) {
             Ok(rest) => match verdict_by(word, &fields, rest) {
                 Some(verdict) => Ok(verdict),
                 None => Err(LineFault::Malformed),

@@ -11,7 +11,7 @@ ghost use Rattle.proof_log.specs.Headings.{heading, heading_of};
 
 use crate::field::Field;
 use crate::line::LineWord;
-use crate::line_writing::{Rest, write_number, write_row};
+use crate::line_writing::{Lent, write_number, write_row};
 use crate::log::{Log, Proof};
 use crate::words::word_text;
 use desk_io::{Failed, Pen, Sink};
@@ -32,7 +32,7 @@ fn write_polynomials<S: Sink>(
     ensures cause { HasCause (S.faults sink.old) (S.faults sink.new) result }
 {
     for p in polynomials {
-        write_row(word, &[], Rest::Poly(p), vars, pen, sink)?;
+        write_row(word, &[], Lent::Poly(p), vars, pen, sink)?;
     }
     Ok(())
 }
@@ -46,15 +46,19 @@ fn write_step<S: Sink>(step: &Step, vars: &Vars, pen: &mut Pen, sink: &mut S) ->
     match step {
         Step::Drop(i) => {
             let fields = [Field::Index(*i)];
-            write_row(LineWord::Drop, &fields, Rest::Nothing, vars, pen, sink)
+            write_row(LineWord::Drop, &fields, Lent::Nothing, vars, pen, sink)
         }
         Step::Red { g, f, m, r } => {
             let fields = [Field::Index(*g), Field::Index(*f), Field::Multiplier(*m)];
-            write_row(LineWord::Red, &fields, Rest::Poly(r), vars, pen, sink)
+            write_row(LineWord::Red, &fields, Lent::Poly(r), vars, pen, sink)
         }
         Step::Tail { f, r } => {
             let fields = [Field::Index(*f)];
-            write_row(LineWord::Tail, &fields, Rest::Poly(r), vars, pen, sink)
+            write_row(LineWord::Tail, &fields, Lent::Poly(r), vars, pen, sink)
+        }
+        Step::Cancel { g, q, r } => {
+            let fields = [Field::Index(*g), Field::Index(*q)];
+            write_row(LineWord::Cancel, &fields, Lent::Poly(r), vars, pen, sink)
         }
     }
 }
@@ -95,7 +99,7 @@ fn write_chain_step<S: Sink>(
     write_row(
         LineWord::Step,
         &fields,
-        Rest::Poly(&step.r),
+        Lent::Poly(&step.r),
         vars,
         pen,
         sink,
@@ -130,14 +134,14 @@ fn write_status<S: Sink>(
     ensures cause { HasCause (S.faults sink.old) (S.faults sink.new) result }
 {
     match status {
-        LeafStatus::Proved => { write_row(LineWord::Proved, &[], Rest::Nothing, vars, pen, sink) }
+        LeafStatus::Proved => { write_row(LineWord::Proved, &[], Lent::Nothing, vars, pen, sink) }
         LeafStatus::Remainder { k, r: _ } => {
             let fields = [Field::Conclusion(*k)];
-            write_row(LineWord::Remainder, &fields, Rest::Nothing, vars, pen, sink)
+            write_row(LineWord::Remainder, &fields, Lent::Nothing, vars, pen, sink)
         }
         LeafStatus::Unreduced { k, reason, f } => {
             let fields = [Field::Conclusion(*k), Field::Why(*reason), Field::Index(*f)];
-            write_row(LineWord::Unreduced, &fields, Rest::Nothing, vars, pen, sink)
+            write_row(LineWord::Unreduced, &fields, Lent::Nothing, vars, pen, sink)
         }
     }
 }
@@ -172,7 +176,7 @@ fn write_system<S: Sink>(
         (system_text vars.now piece.now chain.now status.now) }
     ensures cause { HasCause (S.faults sink.old) (S.faults sink.new) result }
 {
-    write_row(LineWord::System, &[], Rest::Nothing, vars, pen, sink)?;
+    write_row(LineWord::System, &[], Lent::Nothing, vars, pen, sink)?;
     write_lists(piece, vars, pen, sink)?;
     write_chain(chain, vars, pen, sink)?;
     write_status(status, vars, pen, sink)
@@ -192,7 +196,7 @@ fn write_open<S: Sink>(
     ensures cause { HasCause (S.faults sink.old) (S.faults sink.new) result }
 {
     let fields = [Field::Why(reason)];
-    write_row(LineWord::Open, &fields, Rest::Tried(what), vars, pen, sink)?;
+    write_row(LineWord::Open, &fields, Lent::Tried(what), vars, pen, sink)?;
     write_lists(piece, vars, pen, sink)
 }
 
@@ -213,19 +217,27 @@ fn write_outcome<S: Sink>(
             write_row(
                 LineWord::Split,
                 &fields,
-                Rest::Poly(initial),
+                Lent::Poly(initial),
                 vars,
                 pen,
                 sink,
             )
         }
+        Outcome::Factor { f, v } => {
+            let fields = [Field::Index(*f)];
+            write_row(LineWord::Factor, &fields, Lent::Poly(v), vars, pen, sink)
+        }
+        Outcome::Void(j, f) => {
+            let fields = [Field::Index(*j), Field::Index(*f)];
+            write_row(LineWord::Void, &fields, Lent::Nothing, vars, pen, sink)
+        }
         Outcome::Close(i) => {
             let fields = [Field::Index(*i)];
-            write_row(LineWord::Close, &fields, Rest::Nothing, vars, pen, sink)
+            write_row(LineWord::Close, &fields, Lent::Nothing, vars, pen, sink)
         }
         Outcome::Clash(i, j) => {
             let fields = [Field::Index(*i), Field::Index(*j)];
-            write_row(LineWord::Clash, &fields, Rest::Nothing, vars, pen, sink)
+            write_row(LineWord::Clash, &fields, Lent::Nothing, vars, pen, sink)
         }
         Outcome::System { chain, status } => {
             write_system(piece, chain.as_slice(), status, vars, pen, sink)
@@ -246,7 +258,7 @@ fn write_piece<S: Sink>(
     ensures cause { HasCause (S.faults sink.old) (S.faults sink.new) result }
 {
     let fields = [Field::Letters(piece.path)];
-    write_row(LineWord::Node, &fields, Rest::Nothing, vars, pen, sink)?;
+    write_row(LineWord::Node, &fields, Lent::Nothing, vars, pen, sink)?;
     write_steps(piece.steps.as_slice(), vars, pen, sink)?;
     write_outcome(piece, vars, pen, sink)
 }
@@ -275,7 +287,7 @@ fn write_problem<S: Sink>(problem: &Problem, pen: &mut Pen, sink: &mut S) -> Res
     ensures cause { HasCause (S.faults sink.old) (S.faults sink.new) result }
 {
     let vars = &problem.vars;
-    write_row(LineWord::Vars, &[], Rest::Names(vars), vars, pen, sink)?;
+    write_row(LineWord::Vars, &[], Lent::Names(vars), vars, pen, sink)?;
     write_polynomials(LineWord::Hyp, problem.hyps.as_slice(), vars, pen, sink)?;
     write_polynomials(LineWord::Con, problem.cons.as_slice(), vars, pen, sink)
 }
@@ -310,7 +322,7 @@ fn write_proof<S: Sink>(
     write_row(
         LineWord::Verdict,
         &[],
-        Rest::Told(&proof.verdict),
+        Lent::Told(&proof.verdict),
         vars,
         pen,
         sink,

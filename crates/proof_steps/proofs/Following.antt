@@ -77,6 +77,7 @@ pub stepped-path : (n : Node) (s : Step) → (stepped n s).path ≡ n.path
 stepped-path n (step.Drop i) = refl
 stepped-path n (step.Red g f m r) = refl
 stepped-path n (step.Tail f r) = refl
+stepped-path n (step.Cancel g q r) = refl
 
 after_steps-path : (version : ℕ) (n : Node) (steps : List Step) (m : Node) → after_steps version n steps ≡ Some m → m.path ≡ n.path
 after_steps-path version n [] m h = ap (λ (k : Node). k.path) (sym (same_Some _ _ h))

@@ -5,3 +5,4 @@ pub mod Search
 pub mod Reducing
 pub mod Following
 pub mod Dropped
+pub mod Factors

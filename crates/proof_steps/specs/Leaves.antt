@@ -9,8 +9,10 @@ abbrev pub is_listed : Outcome → Bool
 is_listed (outcome.System chain status) = true
 is_listed (outcome.Open reason what) = true
 is_listed (outcome.Split f initial) = false
+is_listed (outcome.Factor f v) = false
 is_listed (outcome.Close i) = false
 is_listed (outcome.Clash i j) = false
+is_listed (outcome.Void j f) = false
 
 -- The listed leaves, with their own equations and conditions, in preorder.
 abbrev pub leaves : List Piece → List Piece

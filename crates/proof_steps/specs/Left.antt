@@ -25,8 +25,10 @@ ListsNone p = (p.eqs ≡ []) × (p.nes ≡ [])
 
 abbrev pub IsTold : List Polynomial → Piece → Outcome → Type 0
 IsTold cons p (outcome.Split f initial) = ListsNone p
+IsTold cons p (outcome.Factor f v) = ListsNone p
 IsTold cons p (outcome.Close i) = ListsNone p
 IsTold cons p (outcome.Clash i j) = ListsNone p
+IsTold cons p (outcome.Void j f) = ListsNone p
 IsTold cons p (outcome.System chain status) = IsLeft cons chain status
 IsTold cons p (outcome.Open reason what) = Unit {0}
 

@@ -1,14 +1,15 @@
 -- Trees of pieces: which list of pieces is the tree of a node, and the tree that the order of work gives.
-use Rattle.std.specs.Prelude.{ℕ, zero, suc, ◌-◌, List, [], ◌∷◌, ◌++◌, Bool, true, false, if◌then◌else◌, ◌&&◌, nat_le, Option, Some, None}
+use Rattle.std.specs.Prelude.{ℕ, zero, suc, ◌-◌, List, [], ◌∷◌, ◌++◌, Bool, true, false, if◌then◌else◌, ◌&&◌, not, nat_le, Option, Some, None}
 use Rattle.std.specs.List.{flat_map}
 use Rattle.poly_model.specs.Polynomial.{Polynomial}
-use Rattle.poly_model.specs.Reduction.{same, is_nonzero_constant, primitive_initial, primitive_tail, reduction_of}
+use Rattle.poly_model.specs.Reduction.{same, is_constant, is_nonzero_constant, primitive_initial, primitive_tail, reduction_of}
+use Rattle.poly_model.specs.Powers.{without_variables, has_factor}
 use Rattle.proof_steps.specs.Numbers.{item, has}
 use Rattle.proof_steps.specs.Reasons.{same_reason}
 pub use Rattle.proof_steps.specs.Paths.{same_path}
-use Rattle.proof_steps.specs.Rules.{is_valid, is_triangular, size_of, made, reason_of, attempt_of, tells_result, stepped}
+use Rattle.proof_steps.specs.Rules.{has_second, is_valid, is_void, is_triangular, size_of, made, factor_children, least_variable, depth_limit, reason_for, reason_of, attempt_of, tells_result, stepped}
 use Rattle.proof_steps.specs.Chain.{chain_fits, chain_of}
-use Rattle.proof_steps.specs.Work.{Next, Try, Closed, Clashed, Solved, next}
+use Rattle.proof_steps.specs.Work.{Next, Try, Closed, Clashed, Voided, Solved, next}
 use Rattle.proof_steps.specs.declared.piece.Node.{Node}
 use Rattle.proof_steps.specs.declared.piece.Piece.{Piece}
 use Rattle.proof_steps.specs.declared.problem.Problem.{Problem}
@@ -45,20 +46,29 @@ lists p n = same_list p.eqs n.eqs && same_list p.nes n.nes
 abbrev pub lists_none : Piece → Bool
 lists_none p = same_list p.eqs [] && same_list p.nes []
 
+-- The node may be parted on the variable v, which divides each term of the f-th equation.
+abbrev pub may_factor : ℕ → Node → ℕ → Polynomial → Bool
+may_factor version n f v = (has_second version && has n.eqs f) && (not (is_constant (item n.eqs f)) && has_factor (item n.eqs f) v)
+
 -- The outcome of a piece fits the node that its steps leave.
 abbrev pub outcome_fits : ℕ → List Polynomial → Node → Piece → Outcome → Bool
 outcome_fits version cons n p (outcome.Split f initial) =
     (is_valid version n (attempt.Split f) && same_reason (reason_of version n (attempt.Split f)) None) && (same initial (primitive_initial (item n.eqs f)) && lists_none p)
+outcome_fits version cons n p (outcome.Factor f v) =
+    (may_factor version n f v && same_reason (reason_for (depth_limit n) (factor_children n f v)) None) && lists_none p
 outcome_fits version cons n p (outcome.Close i) = (has n.eqs i && is_nonzero_constant (item n.eqs i)) && lists_none p
 outcome_fits version cons n p (outcome.Clash i j) = (has n.eqs i && (has n.nes j && same (item n.eqs i) (item n.nes j))) && lists_none p
+outcome_fits version cons n p (outcome.Void j f) = is_void version n j f && lists_none p
 outcome_fits version cons n p (outcome.System chain status) = (is_triangular n.eqs n.nes && chain_fits n.eqs 1 cons (n.fuel - size_of n) chain status) && lists p n
 outcome_fits version cons n p (outcome.Open reason what) = (is_valid version n what && same_reason (reason_of version n what) (Some reason)) && lists p n
 
 -- The nodes whose trees follow the piece.
 abbrev pub children : ℕ → Node → Outcome → List Node
 children version n (outcome.Split f initial) = made version n (attempt.Split f)
+children version n (outcome.Factor f v) = factor_children n f v
 children version n (outcome.Close i) = []
 children version n (outcome.Clash i j) = []
+children version n (outcome.Void j f) = []
 children version n (outcome.System chain status) = []
 children version n (outcome.Open reason what) = []
 
@@ -99,7 +109,9 @@ abbrev pub recorded_as : Node → Attempt → Recorded
 recorded_as n (attempt.Drop i) = AsStep (step.Drop i)
 recorded_as n (attempt.Red g f) = let r = reduction_of (item n.eqs g) (item n.eqs f) in AsStep (step.Red g f r.0 r.1)
 recorded_as n (attempt.Tail f) = AsStep (step.Tail f (primitive_tail (item n.eqs f)))
+recorded_as n (attempt.Cancel g q) = AsStep (step.Cancel g q (without_variables (item n.nes q) (item n.eqs g)))
 recorded_as n (attempt.Split f) = AsOutcome (outcome.Split f (primitive_initial (item n.eqs f)))
+recorded_as n (attempt.Factor f) = AsOutcome (outcome.Factor f (least_variable (item n.eqs f)))
 
 -- A piece without steps, with nothing listed or with what the node has.
 abbrev pub bare : Node → Outcome → Piece
@@ -125,6 +137,7 @@ expansion_tried more version n a None = expansion_recorded more version n a (rec
 abbrev pub expansion_by : (Node → Piece × List Node) → ℕ → List Polynomial → Node → Next → Piece × List Node
 expansion_by more version cons n (Closed i) = (bare n (outcome.Close i), [])
 expansion_by more version cons n (Clashed i j) = (bare n (outcome.Clash i j), [])
+expansion_by more version cons n (Voided j f) = (bare n (outcome.Void j f), [])
 expansion_by more version cons n Solved = let c = chain_of n.eqs cons (n.fuel - size_of n) in (listing n (outcome.System c.0 c.1), [])
 expansion_by more version cons n (Try a) = expansion_tried more version n a (reason_of version n a)
 

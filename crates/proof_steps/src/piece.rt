@@ -26,8 +26,13 @@ pub enum Outcome {
         f: u16,
         initial: OwnedPoly,
     },
+    Factor {
+        f: u16,
+        v: OwnedPoly,
+    },
     Close(u16),
     Clash(u16, u16),
+    Void(u16, u16),
     System {
         chain: Row<ChainStep>,
         status: LeafStatus,

@@ -6,7 +6,9 @@ pub enum Attempt {
     Drop(u16),
     Red(u16, u16),
     Tail(u16),
+    Cancel(u16, u16),
     Split(u16),
+    Factor(u16),
 }
 
 /// A step within a node, with what it gives.
@@ -21,6 +23,11 @@ pub enum Step {
     },
     Tail {
         f: u16,
+        r: OwnedPoly,
+    },
+    Cancel {
+        g: u16,
+        q: u16,
         r: OwnedPoly,
     },
 }

@@ -26,8 +26,10 @@ ArePaired (m ∷ n ∷ o ∷ ms) = ⊥
 
 outcome-paired : (version : ℕ) (n : Node) (x : Outcome) → ArePaired (children version n x)
 outcome-paired version n (outcome.Split f initial) = tt
+outcome-paired version n (outcome.Factor f v) = tt
 outcome-paired version n (outcome.Close i) = tt
 outcome-paired version n (outcome.Clash i j) = tt
+outcome-paired version n (outcome.Void j f) = tt
 outcome-paired version n (outcome.System chain status) = tt
 outcome-paired version n (outcome.Open why what) = tt
 

@@ -5,11 +5,12 @@ use Rattle.std.proofs.lemmas.Bool.{and_parts}
 use Rattle.poly_model.specs.Polynomial.{Polynomial}
 use Rattle.poly_model.specs.Reduction.{same, primitive_initial}
 use Rattle.poly_model.specs.declared.limits.TheConstants.{MOST_LETTERS}
+use Rattle.poly_model.specs.declared.limits.Reason.{Reason}
 use Rattle.poly_model.specs.declared.limits.Reason.TheVariants as reason
 use Rattle.proof_steps.specs.Numbers.{item}
 use Rattle.proof_steps.specs.Reasons.{same_reason}
-use Rattle.proof_steps.specs.Rules.{is_valid, limit_of, reason_of}
-use Rattle.proof_steps.specs.Trees.{children, lists_none, outcome_fits, expansion_of}
+use Rattle.proof_steps.specs.Rules.{is_valid, depth_limit, factor_children, limit_of, reason_for, reason_of}
+use Rattle.proof_steps.specs.Trees.{may_factor, children, lists_none, outcome_fits, expansion_of}
 use Rattle.proof_steps.specs.declared.piece.Node.{Node}
 use Rattle.proof_steps.specs.declared.piece.Outcome.{Outcome}
 use Rattle.proof_steps.specs.declared.piece.Outcome.TheVariants as outcome
@@ -40,6 +41,11 @@ AreBelow path (m ∷ []) = Unit {0}
 AreBelow path (m ∷ n ∷ []) = (m.path ≡ path ++ true ∷ []) × (n.path ≡ path ++ false ∷ []) × (length path < MOST_LETTERS)
 AreBelow path (m ∷ n ∷ o ∷ ms) = Unit {0}
 
+-- where nothing stops a rule, it meets no limit
+no-limit : (limit : Option Reason) (nodes : List Node) → reason_for limit nodes ≡ None → limit ≡ None
+no-limit None nodes e = refl
+no-limit (Some r) nodes e = absurd (let h : ◌≡◌ {A = Option Reason} (Some r) None = e in cc)
+
 outcome-below : (version : ℕ) (cons : List Polynomial) (n : Node) (p : Piece) (x : Outcome) → length n.path ≤ MOST_LETTERS
     → outcome_fits version cons n p x ≡ true → AreBelow n.path (children version n x)
 outcome-below version cons n p (outcome.Split f initial) low h =
@@ -49,8 +55,15 @@ outcome-below version cons n p (outcome.Split f initial) low h =
     let free = none-reason (reason_of version n (attempt.Split f)) b.1 in
     let limit : limit_of version n (attempt.Split f) ≡ None = ((reasons-are-right version n (attempt.Split f)).2.1 free).0 in
     (refl, refl, not-full (length n.path) low (length n.path == MOST_LETTERS) refl limit)
+outcome-below version cons n p (outcome.Factor f v) low h =
+    let nodes = factor_children n f v in
+    let a = and_parts (may_factor version n f v && same_reason (reason_for (depth_limit n) nodes) None) (lists_none p) h in
+    let b = and_parts (may_factor version n f v) (same_reason (reason_for (depth_limit n) nodes) None) a.0 in
+    let free = none-reason (reason_for (depth_limit n) nodes) b.1 in
+    (refl, refl, not-full (length n.path) low (length n.path == MOST_LETTERS) refl (no-limit (depth_limit n) nodes free))
 outcome-below version cons n p (outcome.Close i) low h = tt
 outcome-below version cons n p (outcome.Clash i j) low h = tt
+outcome-below version cons n p (outcome.Void j f) low h = tt
 outcome-below version cons n p (outcome.System chain status) low h = tt
 outcome-below version cons n p (outcome.Open why what) low h = tt
 

@@ -56,12 +56,15 @@ module _ (names : List VarName) where
   attempt-fits (attempt.Drop i) h = (equation i h, tt)
   attempt-fits (attempt.Red g f) h = (equation g h.0, (equation f h.1, tt))
   attempt-fits (attempt.Tail f) h = (equation f h, tt)
+  attempt-fits (attempt.Cancel g q) h = (equation g h.0, (condition q h.1, tt))
   attempt-fits (attempt.Split f) h = (equation f h, tt)
+  attempt-fits (attempt.Factor f) h = (equation f h, tt)
 
   step-over : (s : Step) → IsStep (length names) s → IsOver names (step_line s)
   step-over (step.Drop i) h = (((equation i h, tt), tt), refl)
   step-over (step.Red g f m r) h = (((equation g h.0, (equation f h.1, (h.2, tt))), h.3), refl)
   step-over (step.Tail f r) h = (((equation f h.0, tt), h.1), refl)
+  step-over (step.Cancel g q r) h = (((equation g h.0, (condition q h.1, tt)), h.2), refl)
 
   chain-over : (c : ChainStep) → IsChainStep (length names) c → IsOver names (line.Chain c)
   chain-over c h = (((h.0, (equation c.f h.1, (h.2, tt))), h.3), refl)
@@ -83,8 +86,10 @@ module _ (names : List VarName) where
 
   outcome-over : (p : Piece) (x : Outcome) → IsPiece (length names) p → IsOutcome (length names) x → AreOver names (outcome_lines p x)
   outcome-over p (outcome.Split f initial) w h = ((((equation f h.0, tt), h.1), refl), tt)
+  outcome-over p (outcome.Factor f v) w h = ((((equation f h.0, tt), h.1), refl), tt)
   outcome-over p (outcome.Close i) w h = ((((equation i h, tt), tt), refl), tt)
   outcome-over p (outcome.Clash i j) w h = ((((equation i h.0, (condition j h.1, tt)), tt), refl), tt)
+  outcome-over p (outcome.Void j f) w h = ((((condition j h.0, (equation f h.1, tt)), tt), refl), tt)
   outcome-over p (outcome.System chain s) w h =
       let steps = over-map names (IsChainStep (length names)) line.Chain chain-over chain (recursion_from_All (IsChainStep (length names)) chain h.0) in (
         ((tt, tt), refl),

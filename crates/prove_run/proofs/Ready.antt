@@ -3,7 +3,8 @@ use Rattle.std.proofs.Common.{◌≡◌, ℕ, ◌+◌, ◌-◌, ◌≤◌, List,
 use Rattle.std.proofs.lemmas.List.{length-set}
 use Rattle.std.proofs.lemmas.Option.{same_Some}
 use Rattle.poly_model.specs.Polynomial.{Polynomial}
-use Rattle.poly_model.specs.Reduction.{primitive_initial, primitive_tail, reduction_of}
+use Rattle.poly_model.specs.Powers.{stripped, without_variables}
+use Rattle.poly_model.specs.Reduction.{main_place, primitive_initial, primitive_tail, reduction_of}
 use Rattle.poly_model.specs.declared.limits.TheConstants.{MOST_FUEL, MOST_HYPOTHESES}
 use Rattle.proof_steps.specs.Numbers.{item, replaced}
 use Rattle.proof_steps.specs.Rules.{stepped}
@@ -31,6 +32,7 @@ stepped-few : (n : Node) (s : Step) → IsFew n → IsFew (stepped n s)
 stepped-few n (step.Drop i) h = let e = length-without n.eqs (i - 1) in omega (arith, e, h)
 stepped-few n (step.Red g f m r) h = let e = length-set n.eqs (g - 1) (reduction_of (item n.eqs g) (item n.eqs f)).1 in omega (arith, e, h)
 stepped-few n (step.Tail f r) h = let e = length-set n.eqs (f - 1) (primitive_tail (item n.eqs f)) in omega (arith, e, h)
+stepped-few n (step.Cancel g q r) h = let e = length-set n.eqs (g - 1) (without_variables (item n.nes q) (item n.eqs g)) in omega (arith, e, h)
 
 steps-few : (version : ℕ) (n : Node) (steps : List Step) (m : Node) → IsFew n → after_steps version n steps ≡ Some m → IsFew m
 steps-few version n [] m h e = subst IsFew (same_Some _ _ e) h
@@ -46,8 +48,16 @@ outcome-few version n (outcome.Split f initial) h =
     let b = length-more (replaced n.eqs f cut) J in
     let e = length-set n.eqs (f - 1) cut in
     (omega (arith, p, a, h), (omega (arith, q, b, e, h), tt))
+outcome-few version n (outcome.Factor f v) h =
+    let p = length-more n.path true in
+    let q = length-more n.path false in
+    let a = length-more n.nes v in
+    let e = length-set n.eqs (f - 1) (stripped (main_place v) (item n.eqs f)) in
+    let d = length-set n.eqs (f - 1) v in
+    (omega (arith, p, a, e, h), (omega (arith, q, d, h), tt))
 outcome-few version n (outcome.Close i) h = tt
 outcome-few version n (outcome.Clash i j) h = tt
+outcome-few version n (outcome.Void j f) h = tt
 outcome-few version n (outcome.System chain status) h = tt
 outcome-few version n (outcome.Open why what) h = tt
 

@@ -39,8 +39,10 @@ module _ (names : List VarName) where
 
   outcome-gain : (x : Outcome) → IsOutcome (length names) x → FitsPoly names (unwrap_or (gain_of x) [])
   outcome-gain (outcome.Split f initial) h = h.1
+  outcome-gain (outcome.Factor f v) h = h.1
   outcome-gain (outcome.Close i) h = nothing-fits
   outcome-gain (outcome.Clash i j) h = nothing-fits
+  outcome-gain (outcome.Void j f) h = nothing-fits
   outcome-gain (outcome.System chain s) h = nothing-fits
   outcome-gain (outcome.Open why what) h = nothing-fits
 
@@ -72,7 +74,9 @@ module _ (names : List VarName) where
   leaf-fits cs p (outcome.Open why what) c w h = w.letters
   leaf-fits cs p (outcome.Close i) c w h = w.letters
   leaf-fits cs p (outcome.Clash i j) c w h = w.letters
+  leaf-fits cs p (outcome.Void j f) c w h = w.letters
   leaf-fits cs p (outcome.Split f initial) c w h = w.letters
+  leaf-fits cs p (outcome.Factor f v) c w h = w.letters
 
   pub verdict-fits : (pieces : List Piece) → AllByRecursion (IsPiece (length names)) pieces → FitsVerdict names (verdict_of pieces)
   verdict-fits pieces h = by (generic_leaf pieces) (found (IsPiece (length names)) (λ p. is_leaf p.outcome && not (has_minus p.path)) pieces h)

@@ -47,8 +47,10 @@ left-same cons (c ∷ chain) k = left-same (replaced cons c.k c.r) chain k
 
 outcome-written : (cons : List Polynomial) (p : Piece) (x : Outcome) → IsTold cons p x → OutcomeWritten cons p x
 outcome-written cons p (outcome.Split f initial) h = h
+outcome-written cons p (outcome.Factor f v) h = h
 outcome-written cons p (outcome.Close i) h = h
 outcome-written cons p (outcome.Clash i j) h = h
+outcome-written cons p (outcome.Void j f) h = h
 outcome-written cons p (outcome.System chain status.Proved) h = tt
 outcome-written cons p (outcome.System chain (status.Remainder k r)) h = h ∙ left-same cons chain k
 outcome-written cons p (outcome.System chain (status.Unreduced k why f)) h = tt
@@ -149,12 +151,15 @@ are-proofs (p ∷ ps) h =
     (record { hyps = c.hypotheses; one = omega (arith, c.some_conclusion); two = c.conclusions }, omega (arith, c.some_piece), are-proofs ps h.1)
 
 -- each line is one of the version: all but those of the second stand in the first
-log-versioned : (h : Heading) (log : List Proof) → (has_second h.version ≡ true) ⊎ AreFirst (log_lines h log)
-log-versioned h log = by (has_second h.version)
+log-versioned : (h : Heading) (log : List Proof) → AreAccepted h.version (share_of h.fuel (length log)) log
+    → (has_second h.version ≡ true) ⊎ AreFirst (log_lines h log)
+log-versioned h log a = by (has_second h.version) refl
   where
-    by : (b : Bool) → (b ≡ true) ⊎ AreFirst (line.Head h.version ∷ (fuel_lines b h.fuel ++ (line.Proves (length log) ∷ (proofs_lines 1 log ++ line.End ∷ []))))
-    by true = inl refl
-    by false = inr (head-first h.version (length log) (proofs_lines 1 log ++ line.End ∷ []) (proofs-first 1 log))
+    by : (b : Bool) → has_second h.version ≡ b
+        → (b ≡ true) ⊎ AreFirst (line.Head h.version ∷ (fuel_lines b h.fuel ++ (line.Proves (length log) ∷ (proofs_lines 1 log ++ line.End ∷ []))))
+    by true e = inl refl
+    by false e =
+        inr (head-first h.version (length log) (proofs_lines 1 log ++ line.End ∷ []) (proofs-first h.version e (share_of h.fuel (length log)) 1 log a))
 
 pub accepted-whole : AcceptedIsWhole
 accepted-whole h log known few posed a =
@@ -169,6 +174,6 @@ accepted-whole h log known few posed a =
       counts = All-from_recursion HasCounts log counted;
       written = log-written h.version fuel log a;
       lines = lines;
-      own = log-settled h log (are-proofs log counted) lines (log-versioned h log);
+      own = log-settled h log (are-proofs log counted) lines (log-versioned h log a);
       bytes = omega (arith, all, short);
     }

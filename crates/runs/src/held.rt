@@ -1,5 +1,5 @@
 // A statement proved by two workers in four runs, in each of which a gate holds one branch of one worker while the other goes on.
-ghost use Rattle.std.specs.Prelude.{IfOk};
+ghost use Rattle.std.specs.Prelude.{◌≡◌, IfOk};
 ghost use Rattle.gcl_names.specs.Sound.{IsSound};
 ghost use Rattle.proof_log.specs.Headings.{heading_of};
 ghost use Rattle.prove_run.specs.Logs.{newest};

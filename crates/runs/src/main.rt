@@ -208,6 +208,8 @@ fn main(rt: HostRuntime) -> Result<()> {
     let runs = run_table(&rt, "runs.txt")?;
     let logs = run_table(&rt, "logs.txt")?;
     println!(rt; "{runs} runs and {logs} over logs as the tables say")?;
+    let rules = run_table(&rt, "rules.txt")?;
+    println!(rt; "{rules} over logs with the rules of the second version")?;
     let devices = run_table(&rt, "devices.txt")?;
     println!(rt; "{devices} runs over devices that fail in turn")?;
     check_calls(&rt)?;

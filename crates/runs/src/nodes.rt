@@ -12,11 +12,11 @@ use term_region::TermRegion;
 use term_store::{StoreFault, TermStore, VecStore};
 use wang_split::expand;
 
-// A polynomial over u1 and x1, of so many terms.
+// A polynomial over u1, u2 and x1, of so many terms.
 fn polynomial(alloc: Global, text: &[u8], terms: usize) -> Result<OwnedPoly>
     ensures { IfOk result (λ p. length p ≡ terms) }
 {
-    let Some(vars) = Vars::from_names(&[VarName::U(1), VarName::X(1)]) else {
+    let Some(vars) = Vars::from_names(&[VarName::U(1), VarName::U(2), VarName::X(1)]) else {
         bail!("these are no variables");
     };
     let p = read_poly(alloc, text, &vars)?;
@@ -40,18 +40,33 @@ fn product(alloc: Global, path: Path, fuel: u32) -> Result<Node>
     })
 }
 
-// A node of size 11, in which the reduction of the first equation by the second has the degree 70.
+// A node of size 13, in which the reduction of the second equation by the first has the degree 70.
 fn steep(alloc: Global) -> Result<Node>
-    ensures { IfOk result (λ n. (size_of n ≡ 11) × (n.fuel ≡ 100)
+    ensures { IfOk result (λ n. (size_of n ≡ 13) × (n.fuel ≡ 1000)
         × (length n.eqs + length n.nes ≡ 3)) }
 {
-    let first = polynomial(alloc, b"u1^40*x1 + 1", 2)?;
-    let second = polynomial(alloc, b"u1^30*x1", 1)?;
-    let known = polynomial(alloc, b"u1^30", 1)?;
+    let first = polynomial(alloc, b"u2*x1 + u1^30*x1", 2)?;
+    let second = polynomial(alloc, b"u1^40*x1 + 1", 2)?;
+    let known = polynomial(alloc, b"u2 + u1^30", 2)?;
     Ok(Node {
         path: Path::root(),
         eqs: Row::from_vec(vec![in alloc; first, second]?),
         nes: Row::from_vec(vec![in alloc; known]?),
+        fuel: 1_000,
+    })
+}
+
+// The node of an equation and a condition of two terms each, whose size is 10.
+fn pair(alloc: Global, equation: &[u8], condition: &[u8]) -> Result<Node>
+    ensures { IfOk result (λ n. (size_of n ≡ 10) × (n.fuel ≡ 100)
+        × (length n.eqs + length n.nes ≡ 2)) }
+{
+    let equation = polynomial(alloc, equation, 2)?;
+    let condition = polynomial(alloc, condition, 2)?;
+    Ok(Node {
+        path: Path::root(),
+        eqs: Row::from_vec(vec![in alloc; equation]?),
+        nes: Row::from_vec(vec![in alloc; condition]?),
         fuel: 100,
     })
 }
@@ -78,8 +93,8 @@ fn is_left(alloc: Global, node: &Node, why: Reason, at: Attempt) -> Result<bool>
     let (piece, children) = expanded(alloc, node)?;
     let is_open = match &piece.outcome {
         Outcome::Open { reason, what } => *reason == why && *what == at,
-        Outcome::Split { .. } | Outcome::Close(_) | Outcome::Clash(_, _) | Outcome::System { .. } =>
-            false,
+        Outcome::Split { .. } | Outcome::Factor { .. } | Outcome::Close(_) => false,
+        Outcome::Clash(_, _) | Outcome::Void(_, _) | Outcome::System { .. } => false,
     };
     Ok(is_open && piece.steps.as_slice().is_empty() && children.is_none())
 }
@@ -95,22 +110,40 @@ fn longest_path() -> Path {
     path
 }
 
-/// A node that a depth, its fuel or a degree stops; and one that is split, whose children get 86 and 12 of its fuel of 100.
-pub fn check_nodes(alloc: Global) -> Result<()> {
+// Nodes that a depth, the fuel or a degree stops.
+fn check_stopped(alloc: Global) -> Result<()> {
     let deep = product(alloc, longest_path(), 320_000)?;
     let short = product(alloc, Path::root(), 6)?;
     let steep = steep(alloc)?;
     if deep.path.len() != 64
-        || !is_left(alloc, &deep, Reason::Depth, Attempt::Split(1))?
-        || !is_left(alloc, &short, Reason::Fuel, Attempt::Split(1))?
-        || !is_left(alloc, &steep, Reason::Degree, Attempt::Red(1, 2))?
+        || !is_left(alloc, &deep, Reason::Depth, Attempt::Factor(1))?
+        || !is_left(alloc, &short, Reason::Fuel, Attempt::Factor(1))?
+        || !is_left(alloc, &steep, Reason::Degree, Attempt::Red(2, 1))?
     {
         bail!("a node that is left open: another piece");
     }
+    Ok(())
+}
+
+// Nodes that have no zeros: the equation is the condition, and the condition reduces to 0 by the equation.
+fn check_empty(alloc: Global) -> Result<()> {
+    let (clashing, _) = expanded(alloc, &pair(alloc, b"u2^2 - u1^2", b"u2^2 - u1^2")?)?;
+    let (voided, _) = expanded(alloc, &pair(alloc, b"u2 - u1", b"u2^2 - u1*u2")?)?;
+    match (clashing.outcome, voided.outcome) {
+        (Outcome::Clash(1, 1), Outcome::Void(1, 1)) => Ok(()),
+        (_, _) => bail!("a node without zeros: another piece"),
+    }
+}
+
+/// A node that a depth, its fuel or a degree stops; two without zeros; and one that is parted on a factor, whose children get 86
+/// and 12 of its fuel of 100.
+pub fn check_nodes(alloc: Global) -> Result<()> {
+    check_stopped(alloc)?;
+    check_empty(alloc)?;
     let (_, children) = expanded(alloc, &product(alloc, Path::root(), 100)?)?;
     match children {
         Some((plus, minus)) if plus.fuel == 86 && minus.fuel == 12 => Ok(()),
-        Some(_) | None => bail!("a node that is split: other children"),
+        Some(_) | None => bail!("a node that is parted: other children"),
     }
 }
 

@@ -7,7 +7,8 @@ use Rattle.std.proofs.lemmas.List.{append-nil}
 use Rattle.poly_model.specs.Domain.{Operations}
 use Rattle.poly_model.specs.Polynomial.{Polynomial, value_at}
 use Rattle.poly_model.specs.Zeros.{NoneZero}
-use Rattle.poly_model.specs.Reduction.{same, primitive_initial, primitive_tail}
+use Rattle.poly_model.specs.Powers.{stripped}
+use Rattle.poly_model.specs.Reduction.{same, main_place, primitive_initial, primitive_tail}
 use Rattle.poly_model.specs.Equality.{same-is}
 use Rattle.proof_steps.specs.Numbers.{item, replaced}
 use Rattle.proof_steps.specs.Rules.{is_valid, reason_of, size_of, stepped, plus_child, minus_child}
@@ -40,6 +41,7 @@ stepped-nes : (n : Node) (s : Step) → (stepped n s).nes ≡ n.nes
 stepped-nes n (step.Drop i) = refl
 stepped-nes n (step.Red g f m r) = refl
 stepped-nes n (step.Tail f r) = refl
+stepped-nes n (step.Cancel g q r) = refl
 
 steps-nes : (version : ℕ) (n : Node) (steps : List Step) (m : Node) → after_steps version n steps ≡ Some m → m.nes ≡ n.nes
 steps-nes version n [] m h = ap (λ (k : Node). k.nes) (sym (same_Some _ _ h))
@@ -48,8 +50,10 @@ steps-nes version n (s ∷ steps) m h = steps-nes version (stepped n s) steps m 
 -- a listed piece has the conditions of its node
 listed-nes : (version : ℕ) (cons : List Polynomial) (m : Node) (p : Piece) (x : Outcome) → outcome_fits version cons m p x ≡ true → is_listed x ≡ true → p.nes ≡ m.nes
 listed-nes version cons m p (outcome.Split f initial) h l = cc
+listed-nes version cons m p (outcome.Factor f v) h l = cc
 listed-nes version cons m p (outcome.Close i) h l = cc
 listed-nes version cons m p (outcome.Clash i j) h l = cc
+listed-nes version cons m p (outcome.Void j f) h l = cc
 listed-nes version cons m p (outcome.System c t) h l = same_list-is _ _ (and_parts (same_list p.eqs m.eqs) _ (and_parts _ (same_list p.eqs m.eqs && same_list p.nes m.nes) h).1).1
 listed-nes version cons m p (outcome.Open r w) h l = same_list-is _ _ (and_parts (same_list p.eqs m.eqs) _ (and_parts _ (same_list p.eqs m.eqs && same_list p.nes m.nes) h).1).1
 
@@ -130,8 +134,22 @@ module _ (version : ℕ) (cons : List Polynomial) where
         gains = refl;
         nes = ap (λ r. m.nes ++ r ∷ []) (sym told);
       })
+  kind m p (outcome.Factor f v) h =
+      let up = replaced m.eqs f (stripped (main_place v) (item m.eqs f)) in
+      let down = replaced m.eqs f v in
+      inr (record {
+        plus = plus_child m v up down;
+        minus = minus_child m v down;
+        nodes = refl;
+        up = refl;
+        down = refl;
+        gain = v;
+        gains = refl;
+        nes = refl;
+      })
   kind m p (outcome.Close i) h = inl (refl, refl)
   kind m p (outcome.Clash i j) h = inl (refl, refl)
+  kind m p (outcome.Void j f) h = inl (refl, refl)
   kind m p (outcome.System c t) h = inl (refl, refl)
   kind m p (outcome.Open r w) h = inl (refl, refl)
 

@@ -152,8 +152,10 @@ system-listed : (x : Outcome) → is_system x ≡ true → is_listed x ≡ true
 system-listed (outcome.System c s) h = refl
 system-listed (outcome.Open r w) h = refl
 system-listed (outcome.Split f i) h = absurd (cc)
+system-listed (outcome.Factor f v) h = absurd (cc)
 system-listed (outcome.Close i) h = absurd (cc)
 system-listed (outcome.Clash i j) h = absurd (cc)
+system-listed (outcome.Void j f) h = absurd (cc)
 
 -- the hypotheses are zero there, no condition of the verdict is, and the conclusions have values
 point-shown : (version : ℕ) (problem : Problem) (fuel : ℕ) (pieces : List Piece) (point : List ℤ) → is_tree_of version problem fuel pieces ≡ true
@@ -229,8 +231,10 @@ under-conditions pieces cs h = go (generic_leaf pieces) h
     by g (outcome.System c (status.Unreduced k r f)) e = cc
     by g (outcome.Open r w) e = cc
     by g (outcome.Split f i) e = cc
+    by g (outcome.Factor f v) e = cc
     by g (outcome.Close i) e = cc
     by g (outcome.Clash i j) e = cc
+    by g (outcome.Void j f) e = cc
 
     go : (r : Option Piece) → (elim r as (λ _. Verdict) [ None ↦ verdict.Degenerate [] | Some p ↦ verdict_by (conditions pieces) p p.outcome ]) ≡ verdict.Under cs
         → conditions pieces ≡ cs

@@ -99,8 +99,10 @@ abbrev pub is_system : Outcome → Bool
 is_system (outcome.System chain s) = true
 is_system (outcome.Open reason what) = false
 is_system (outcome.Split f initial) = false
+is_system (outcome.Factor f v) = false
 is_system (outcome.Close i) = false
 is_system (outcome.Clash i j) = false
+is_system (outcome.Void j f) = false
 
 -- The point of a leaf, if there is one and it is a system.
 abbrev pub point_at : Problem → Option Piece → Option (List ℤ)

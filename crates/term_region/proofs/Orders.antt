@@ -6,7 +6,7 @@ use Rattle.std.proofs.lemmas.List as lists
 use Rattle.term_region.specs.declared.run.Run.{Run}
 use Rattle.std.specs.Prelude.{Option, Some, None, cond}
 use Rattle.term_store.specs.States.{newest_without}
-use Rattle.std.proofs.lemmas.Bool.{and_from, and_parts}
+use Rattle.std.proofs.lemmas.Bool.{and_parts}
 use Rattle.term_region.specs.Pool.{no_run, run_at, Ordered, Vacant, sum_of, one_of, ends_last, newest_last}
 use Rattle.term_region.proofs.Sums.{Alike, alike, both, live-below, sum-set, sum-push, one-live, one-dead}
 
@@ -147,17 +147,6 @@ ordered-popped rs order less n o one same void = record {
 pub ordered-ends : (rs : List Run) (order : List ℕ) (n m : ℕ) → Ordered rs order n → ((k : ℕ) → (run_at rs k).live ≡ true → (run_at rs k).start + (run_at rs k).len ≤ m) → Ordered rs order m
 ordered-ends rs order n m o h = record { ranked = o.ranked; entered = o.entered; slots = o.slots; apart = o.apart; inside = h }
 
--- a run whose entry is the last ends last
-pub top-ends : (rs : List Run) (order : List ℕ) (n m : ℕ) → Ordered rs order n → (run_at rs m).live ≡ true → suc (run_at rs m).rank ≡ length order
-    → (k : ℕ) → (run_at rs k).live ≡ true → (run_at rs k).start + (run_at rs k).len ≤ (run_at rs m).start + (run_at rs m).len
-top-ends rs order n m o live top k l = elim (cases_lt (run_at rs k).rank (run_at rs m).rank) [
-  | inl lt ↦ omega (arith, o.apart k m l live lt)
-  | inr ge ↦
-      let same : (run_at rs k).rank ≡ (run_at rs m).rank = omega (arith, top, o.ranked k l) in
-      let e : k ≡ m = sym (o.entered k l) ∙ ap (λ r. get_or order r 0) same ∙ o.entered m live in
-      omega (arith, ap (λ x. (run_at rs x).start) e, ap (λ x. (run_at rs x).len) e)
-]
-
 -- ---- vacant slots
 pub vacant-taken : (rs new : List Run) (vacant less : List ℕ) (q : Run) (m : ℕ) → Vacant rs vacant → length less + 1 ≡ length vacant
     → ((i : ℕ) → i < length less → get_or less i 0 ≡ get_or vacant i 0) → m ≡ get_or vacant (length less) 0
@@ -277,54 +266,6 @@ void-top rs order n i slot r o lt entry is void k l e =
     let run : r ≡ run_at rs k = lists.get_or_read rs slot r below is no_run ∙ ap (run_at rs) at in
     void (ap (λ (x : Run). x.live) run ∙ l) (ap (λ (x : Run). x.rank) run ∙ e)
 
--- ---- where the last live run's entry is the last that is kept
-pub cut-ordered : (rs : List Run) (order new : List ℕ) (n entries slot : ℕ) → Ordered rs order n → entries ≤ length order → 0 < entries
-    → (run_at rs slot).live ≡ true → suc (run_at rs slot).rank ≡ entries
-    → ((k : ℕ) → (run_at rs k).live ≡ true → (run_at rs k).rank < entries) → new ≡ take entries order → Ordered rs new ((run_at rs slot).start + (run_at rs slot).len)
-cut-ordered rs order new n entries slot o le some live top below made = ordered-ends rs new n _ kept (top-ends rs new n slot kept live (omega (arith, total, top)))
-  where
-    total : length new ≡ entries
-    total = ap length made ∙ simp (length-take) (omega arith)
-
-    at : (i : ℕ) → i < entries → get_or new i 0 ≡ get_or order i 0
-    at i lt = ap (λ l. get_or l i 0) made ∙ lists.get_or-take entries order i 0 lt
-
-    kept : Ordered rs new n
-    kept = record {
-      ranked = λ k l. omega (arith, total, below k l);
-      entered = λ k l. at (run_at rs k).rank (below k l) ∙ o.entered k l;
-      slots = λ i lt. omega (arith, at i (omega (arith, total)), o.slots i (omega (arith, total)));
-      apart = o.apart;
-      inside = o.inside;
-    }
-
-pub cut-last : (rs : List Run) (order new : List ℕ) (n entries slot : ℕ) → Ordered rs order n → entries ≤ length order → (run_at rs slot).live ≡ true → suc (run_at rs slot).rank ≡ entries
-    → ((k : ℕ) → (run_at rs k).live ≡ true → (run_at rs k).rank < entries) → new ≡ take entries order
-    → (k : ℕ) → ends_last rs (length order) n k ≡ true → ends_last rs (length new) ((run_at rs slot).start + (run_at rs slot).len) k ≡ true
-cut-last rs order new n entries slot o le live top below made k h =
-    let parts = and_parts (run_at rs k).live (nat_eq (suc (run_at rs k).rank) (length order) && nat_eq ((run_at rs k).start + (run_at rs k).len) n) h in
-    let last = eq-of (suc (run_at rs k).rank) (length order) (and_parts (nat_eq (suc (run_at rs k).rank) (length order)) (nat_eq ((run_at rs k).start + (run_at rs k).len) n) parts.1).0 in
-    let total : length new ≡ entries = ap length made ∙ simp (length-take) (omega arith) in
-    let rank : (run_at rs k).rank ≡ (run_at rs slot).rank = omega (arith, last, below k parts.0, top) in
-    let same : k ≡ slot = sym (o.entered k parts.0) ∙ ap (λ r. get_or order r 0) rank ∙ o.entered slot live in
-    and_from _ _ parts.0 (and_from _ _ (eq-is (suc (run_at rs k).rank) (length new) (omega (arith, rank, top, total)))
-    (eq-is ((run_at rs k).start + (run_at rs k).len) ((run_at rs slot).start + (run_at rs slot).len) (ap (λ x. (run_at rs x).start + (run_at rs x).len) same)))
-  where
-    eq-of : (a b : ℕ) → nat_eq a b ≡ true → a ≡ b
-    eq-of a b e = grind (arith, nat_tests)
-
-    eq-is : (a b : ℕ) → a ≡ b → nat_eq a b ≡ true
-    eq-is a b e = grind (arith, nat_tests)
-
-pub cut-none : (rs : List Run) (order : List ℕ) (n : ℕ) → ((k : ℕ) → (run_at rs k).live ≡ true → (run_at rs k).rank < 0) → order ≡ [] → Ordered rs order 0
-cut-none rs order n below none = record {
-  ranked = λ k l. absurd (omega (arith, below k l));
-  entered = λ k l. absurd (omega (arith, below k l));
-  slots = λ i lt. absurd (omega (arith, ap length none));
-  apart = λ j k lj lk lt. absurd (omega (arith, below k lk));
-  inside = λ k l. absurd (omega (arith, below k l));
-}
-
 -- the newest list ends last, where another is given up
 pub newest-kept : (rs new : List Run) (order less : List ℕ) (n m slot : ℕ) (newest : Option ℕ) → newest_last rs (length order) n newest ≡ true
     → ((j : ℕ) → j ≢ slot → run_at new j ≡ run_at rs j) → ((k : ℕ) → ends_last new (length order) n k ≡ true → ends_last new (length less) m k ≡ true)
@@ -339,8 +280,52 @@ newest-kept rs new order less n m slot (Some o) e others cut =
     apart : nat_eq slot o ≡ false → o ≢ slot
     apart q same = absurd (let h : nat_eq slot o ≡ true = grind (arith, nat_tests) in both (nat_eq slot o) h q)
 
-pub void-at : (rs : List Run) (order : List ℕ) (i slot : ℕ) → slot ≡ get_or order i 0 → ((k : ℕ) → (run_at rs k).live ≡ true → get_or order (run_at rs k).rank 0 ≡ k)
-    → ((run_at rs slot).live ≡ true → (run_at rs slot).rank ≡ i → ⊥) → (k : ℕ) → (run_at rs k).live ≡ true → (run_at rs k).rank ≢ i
-void-at rs order i slot entry entered void k l e =
-    let at : slot ≡ k = entry ∙ ap (λ x. get_or order x 0) (sym e) ∙ entered k l in
-    void (ap (λ x. (run_at rs x).live) at ∙ l) (ap (λ x. (run_at rs x).rank) at ∙ e)
+-- ---- a run that is given up
+-- no other run has its rank
+pub alone : (rs new : List Run) (order : List ℕ) (n m : ℕ) → Ordered rs order n → (run_at rs m).live ≡ true → (run_at new m).live ≡ false
+    → ((j : ℕ) → j ≢ m → run_at new j ≡ run_at rs j) → (k : ℕ) → (run_at new k).live ≡ true → (run_at new k).rank ≢ (run_at rs m).rank
+alone rs new order n m o live dead others k l e = elim (cases_eq k m) [
+  | inl q ↦ both (run_at new k).live l (ap (λ x. (run_at new x).live) q ∙ dead)
+  | inr a ↦
+      let was = alike _ _ (others k a) in
+      a (sym (o.entered k (sym was.live ∙ l)) ∙ ap (λ r. get_or order r 0) (sym was.rank ∙ e) ∙ o.entered m live)
+]
+
+-- those with a lesser rank end where it began
+pub before : (rs new : List Run) (order : List ℕ) (n m : ℕ) → Ordered rs order n → (run_at rs m).live ≡ true → (run_at new m).live ≡ false
+    → ((j : ℕ) → j ≢ m → run_at new j ≡ run_at rs j) → (k : ℕ) → (run_at new k).live ≡ true → (run_at new k).rank < (run_at rs m).rank
+    → (run_at new k).start + (run_at new k).len ≤ (run_at rs m).start
+before rs new order n m o live dead others k l lt = elim (cases_eq k m) [
+  | inl q ↦ absurd (both (run_at new k).live l (ap (λ x. (run_at new x).live) q ∙ dead))
+  | inr a ↦
+      let was = alike _ _ (others k a) in
+      let ends = o.apart k m (sym was.live ∙ l) live (omega (arith, was.rank, lt)) in
+      omega (arith, was.start, was.len, ends)
+]
+
+-- its entry is cut off, where it was the last
+pub cut-order : (rs : List Run) (order less : List ℕ) (n rank start : ℕ) → Ordered rs order n → length order ≡ rank + 1 → less ≡ take rank order
+    → ((k : ℕ) → (run_at rs k).live ≡ true → (run_at rs k).rank ≢ rank)
+    → ((k : ℕ) → (run_at rs k).live ≡ true → (run_at rs k).rank < rank → (run_at rs k).start + (run_at rs k).len ≤ start) → Ordered rs less start
+cut-order rs order less n rank start o top made none ends =
+    ordered-ends rs less n start kept (λ k l. ends k l (omega (arith, kept.ranked k l, total)))
+  where
+    total : length less ≡ rank
+    total = ap length made ∙ simp (length-take) (omega (arith, top))
+
+    kept : Ordered rs less n
+    kept = ordered-popped rs order less n o (omega (arith, total, top))
+        (λ i lt. ap (λ l. get_or l i 0) made ∙ lists.get_or-take rank order i 0 (omega (arith, lt, total)))
+        (λ k l e. none k l (e ∙ total))
+
+-- where it was the last, no other ends last
+pub none-last : (rs : List Run) (order less : List ℕ) (n m rank : ℕ) → length order ≡ rank + 1
+    → ((k : ℕ) → (run_at rs k).live ≡ true → (run_at rs k).rank ≢ rank)
+    → (k : ℕ) → ends_last rs (length order) n k ≡ true → ends_last rs (length less) m k ≡ true
+none-last rs order less n m rank top none k h =
+    let parts = and_parts (run_at rs k).live (nat_eq (suc (run_at rs k).rank) (length order) && nat_eq ((run_at rs k).start + (run_at rs k).len) n) h in
+    let last = eq-of (suc (run_at rs k).rank) (length order) (and_parts (nat_eq (suc (run_at rs k).rank) (length order)) (nat_eq ((run_at rs k).start + (run_at rs k).len) n) parts.1).0 in
+    absurd (none k parts.0 (omega (arith, last, top)))
+  where
+    eq-of : (a b : ℕ) → nat_eq a b ≡ true → a ≡ b
+    eq-of a b e = grind (arith, nat_tests)

@@ -7,7 +7,7 @@ ghost use Rattle.term_store.specs.declared.store.StoreFault.TheVariants.{Full};
 use crate::moving::{make_room, make_way};
 use crate::region::TermRegion;
 use crate::run::Run;
-use crate::seats::{append, items, last_end, seat, vacate, without};
+use crate::seats::{append, forget, items, last_end, seat, vacate};
 use poly_model::Term;
 use std::alloc::{AllocError, Global};
 use term_store::{Slot, StoreFault, TermStore};
@@ -57,6 +57,7 @@ impl TermStore for TermRegion {
         }
     }
 
+    #[inline(always)]
     fn fresh(&mut self) -> Slot {
         make_way(
             &mut self.terms,
@@ -94,11 +95,18 @@ impl TermStore for TermRegion {
         self.spare -= 1;
     }
 
+    #[inline(always)]
     fn free(&mut self, slot: Slot) {
         let run = self.runs[slot.0];
         vacate(&mut self.runs, &mut self.vacant, slot.0);
-        self.newest = without(self.newest, slot.0);
-        let end = last_end(&self.runs, &mut self.order, self.terms.len(), run.rank);
+        forget(&mut self.newest, slot.0);
+        let end = last_end(
+            &self.runs,
+            &mut self.order,
+            self.terms.len(),
+            run.rank,
+            run.start,
+        );
         self.terms.truncate(end);
         self.spare += run.len + 1;
     }

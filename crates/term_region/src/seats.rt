@@ -97,59 +97,22 @@ pub fn vacate(runs: &mut Vec<Run>, vacant: &mut Vec<usize>, slot: usize)
     }
 }
 
-/// How many entries are left, where the last ones that are no run's are given up.
-fn entries_left(runs: &[Run], order: &[usize]) -> usize
-    requires slots { (i : ℕ) → i < length order.now → get_or order.now i 0 < length runs.now }
-    requires ranked { (k : ℕ) → (run_at runs.now k).live ≡ true
-        → (run_at runs.now k).rank < length order.now }
-    requires entered { (k : ℕ) → (run_at runs.now k).live ≡ true
-        → get_or order.now (run_at runs.now k).rank 0 ≡ k }
-    ensures within { result ≤ length order.now }
-    ensures below { (k : ℕ) → (run_at runs.now k).live ≡ true
-        → (run_at runs.now k).rank < result }
-    ensures live { 0 < result
-        → (run_at runs.now (get_or order.now (result - 1) 0)).live ≡ true }
-    ensures top { 0 < result
-        → suc (run_at runs.now (get_or order.now (result - 1) 0)).rank ≡ result }
-{
-    let mut entries = order.len();
-    while entries > 0 {
-        let run = runs[order[entries - 1]];
-        if run.live && run.rank == entries - 1 {
-            return entries;
-        }
-        entries -= 1;
-    }
-    0
-}
-
-// Gives up the last entries that are no run's, and answers where the last run ends.
-#[inline(never)]
-fn cut_back(runs: &[Run], order: &mut Vec<usize>, most: usize) -> usize
-    requires ordered { Ordered runs.now order.old.items most }
-    ensures ordered { Ordered runs.now order.new.items result }
-    ensures shorter { length order.new.items ≤ length order.old.items }
-    ensures within { result ≤ most }
-    ensures last { (k : ℕ) → IsTrue (ends_last runs.now (length order.old.items) most k)
-        → IsTrue (ends_last runs.now (length order.new.items) result k) }
-    ensures order_room { vec_capacity order.new ≡ vec_capacity order.old }
-{
-    let entries = entries_left(runs, order);
-    if entries == 0 {
-        order.clear();
-        return 0;
-    }
-    let run = runs[order[entries - 1]];
-    order.truncate(entries);
-    run.start + run.len
-}
-
-/// Answers where the last run ends, once the run of a rank is given up. Where it was the last one, the last entries that are no
-/// run's are given up; else they stay as they are, which costs less.
+/// Gives the entry of a run up that is given up, where it is the last, and answers where the terms of the others end. Where
+/// it is not the last, its entry stays, and its terms stand unused, until all are gathered.
 #[inline(always)]
-pub fn last_end(runs: &[Run], order: &mut Vec<usize>, most: usize, rank: usize) -> usize
+pub fn last_end(
+    runs: &[Run],
+    order: &mut Vec<usize>,
+    most: usize,
+    rank: usize,
+    start: usize,
+) -> usize
     requires ordered { Ordered runs.now order.old.items most }
     requires rank { rank < length order.old.items }
+    requires start { start ≤ most }
+    requires alone { (k : ℕ) → (run_at runs.now k).live ≡ true → (run_at runs.now k).rank ≢ rank }
+    requires before { (k : ℕ) → (run_at runs.now k).live ≡ true → (run_at runs.now k).rank < rank
+        → (run_at runs.now k).start + (run_at runs.now k).len ≤ start }
     ensures ordered { Ordered runs.now order.new.items result }
     ensures shorter { length order.new.items ≤ length order.old.items }
     ensures within { result ≤ most }
@@ -160,16 +123,16 @@ pub fn last_end(runs: &[Run], order: &mut Vec<usize>, most: usize, rank: usize) 
     if order.len() - rank > 1 {
         return most;
     }
-    cut_back(runs, order, most)
+    order.truncate(rank);
+    start
 }
 
-/// The newest list, once a list is given up.
+/// Forgets the newest list, where it is the one that is given up.
 #[inline(always)]
-pub fn without(newest: Option<usize>, slot: usize) -> Option<usize>
-    ensures { result ≡ newest_without slot newest }
+pub fn forget(newest: &mut Option<usize>, slot: usize)
+    ensures { newest.new ≡ newest_without slot newest.old }
 {
-    match newest {
-        None => None,
-        Some(held) => { if slot == held { None } else { Some(held) } }
+    if *newest == Some(slot) {
+        *newest = None;
     }
 }

@@ -1,6 +1,6 @@
 -- What is due at a node is valid there.
-use Rattle.std.proofs.Common.{◌≡◌, ℕ, ◌+◌, ◌-◌, ◌<◌, ◌≤◌, zero, suc, List, [], ◌∷◌, length, get_or, refl, sym, ◌∙◌, ap, arith, Bool, true, false, cond, ◌&&◌, ◌||◌, not, inl, inr}
-use Rattle.std.specs.Prelude.{◌==◌, Option, Some, None, unwrap_or, option_map, nat_lt, nat_le, if◌then◌else◌, count_by, pos}
+use Rattle.std.proofs.Common.{◌≡◌, ℕ, ◌+◌, ◌-◌, ◌<◌, ◌≤◌, zero, suc, List, [], ◌∷◌, length, get_or, take, refl, sym, ◌∙◌, ap, arith, Bool, true, false, cond, ◌&&◌, ◌||◌, not, inl, inr}
+use Rattle.std.specs.Prelude.{◌==◌, Option, Some, None, is_some, unwrap_or, option_map, nat_lt, nat_le, if◌then◌else◌, count_by, pos}
 use Rattle.std.specs.List.{list_all, list_any}
 use Rattle.std.specs.Ordering.{int_eq}
 use Rattle.std.proofs.lemmas.Bool.{and_parts, and_from, and_cases, or_cases, or_parts, or_from, or_left, or_right, eqb-true, eqb-false, eq-eqb, ne_eqb, not_from_true, not_from_false, lt-ltb, le-leb, ltb-true, ltb-false, leb-true, both_ways, not-false, and_right}
@@ -8,9 +8,9 @@ use Rattle.std.proofs.lemmas.List.Sums.{sum_by-cons}
 use Rattle.poly_model.specs.Polynomial.{Polynomial}
 use Rattle.proof_steps.specs.Numbers.{item, has, first}
 use Rattle.poly_model.specs.Reduction.{same, has_polynomial, class_of, number_of, is_constant, is_zero, is_nonzero_constant, main_place, main_degree, degree_at, reaches, primitive_initial}
-use Rattle.proof_steps.specs.Rules.{has_known_initial, is_settled, is_triangular, is_valid}
+use Rattle.proof_steps.specs.Rules.{has_second, is_multiple, has_known_initial, is_settled, is_triangular, is_valid, is_void}
 use Rattle.proof_steps.specs.Work as work
-use Rattle.proof_steps.specs.Work.{Next, drop_due, close_due, clash_due, class_due, number_in, unsettled_class, is_less, is_least, least, other, work_on, next}
+use Rattle.proof_steps.specs.Work.{Next, first_second, first_pair, drop_due, close_due, clash_due, cancel_due, factor_due, void_due, class_due, number_in, unsettled_class, is_less, is_least, least, other, work_on, next}
 use Rattle.proof_steps.specs.declared.piece.Node.{Node}
 use Rattle.proof_steps.specs.declared.step.Attempt.TheVariants as attempt
 use Rattle.proof_steps.proofs.Search.{first_from-found, first_from-passes, first_from-none, greatest-attained, greatest-above, all-at}
@@ -349,7 +349,8 @@ solved-right version n no_drop no_close settled =
     no_zero i w t =
         both_ways (is_valid version n (attempt.Drop (suc i))) (none-at (may_drop version n) (length n.eqs) i no_drop w)
         (and_from (has n.eqs (suc i)) _ (has-from n.eqs (suc i) (omega arith) (omega arith))
-        (or_left (is_zero (item n.eqs (suc i))) _ (ap is_zero (item-next n.eqs i) ∙ t)))
+        (or_left (is_zero (item n.eqs (suc i)) || has_polynomial (take (suc i - 1) n.eqs) (item n.eqs (suc i))) (has_second version && is_multiple n.eqs (item n.eqs (suc i)))
+        (or_left (is_zero (item n.eqs (suc i))) _ (ap is_zero (item-next n.eqs i) ∙ t))))
 
     no_number : (i : ℕ) → i < length n.eqs → is_nonzero_constant (get_or n.eqs i []) ≡ true → ⊥
     no_number i w t =
@@ -366,6 +367,38 @@ solved-right version n no_drop no_close settled =
           ] refl
         ] refl
 
+-- the first pair that passes a test, or what is due else
+pair-right : (test : ℕ → ℕ → Bool) (m n : ℕ) (found : ℕ → ℕ → Next) (P : Next → Type 0) (x : Next) → ((i j : ℕ) → test i j ≡ true → P (found i j)) → P x
+    → P (unwrap_or (first_pair test m n found) x)
+pair-right test m n found P x h other = outer (first (λ i. is_some (first_second test n i)) m) refl
+  where
+    same_some : {a b : ℕ} → Some a ≡ Some b → a ≡ b
+    same_some q = ap (λ r. unwrap_or r 0) q
+
+    inner : (i : ℕ) (r : Option ℕ) → first_second test n i ≡ r → is_some r ≡ true → P (found i (unwrap_or r 0))
+    inner i None e q = cc
+    inner i (Some j) e q = let g = first_from-passes (test i) n 1 j e in h i j (ap (test i) (same_some g.found) ∙ g.passes)
+
+    outer : (r : Option ℕ) → first (λ i. is_some (first_second test n i)) m ≡ r
+        → P (unwrap_or (option_map (λ i. found i (unwrap_or (first_second test n i) 0)) r) x)
+    outer None e = other
+    outer (Some i) e =
+        let f = first_from-passes (λ i. is_some (first_second test n i)) m 1 i e in
+        inner i (first_second test n i) refl (ap (λ k. is_some (first_second test n k)) (same_some f.found) ∙ f.passes)
+
+-- what is due where no rule before is
+abbrev after_class : ℕ → Node → Next
+after_class version n = unwrap_or (void_due version n) work.Solved
+
+abbrev after_factor : ℕ → Node → Next
+after_factor version n = unwrap_or (class_due n) (after_class version n)
+
+abbrev after_cancel : ℕ → Node → Next
+after_cancel version n = unwrap_or (factor_due version n) (after_factor version n)
+
+abbrev after_clash : ℕ → Node → Next
+after_clash version n = unwrap_or (cancel_due version n) (after_cancel version n)
+
 pub next-right : (version : ℕ) (n : Node) → IsRight version n (next version n)
 next-right version n = drop_step (first (may_drop version n) (length n.eqs)) refl
   where
@@ -376,27 +409,38 @@ next-right version n = drop_step (first (may_drop version n) (length n.eqs)) ref
         (ap (has n.eqs) at ∙ has-from n.eqs f.at f.low f.high, ap test at ∙ f.passes)
 
     class_step : first (may_drop version n) (length n.eqs) ≡ None → first (may_close n) (length n.eqs) ≡ None
-        → IsRight version n (unwrap_or (class_due n) work.Solved)
+        → IsRight version n (after_factor version n)
     class_step d c =
         elim (unsettled_class n) as (λ x. unsettled_class n ≡ x
-        → IsRight version n (unwrap_or (elim x as (λ _. Option Next) [ zero ↦ None | suc x ↦ Some (work.Try (work_on n (suc x))) ]) work.Solved)) [
-          | zero ↦ λ e. solved-right version n d c e
+        → IsRight version n (unwrap_or (elim x as (λ _. Option Next) [ zero ↦ None | suc x ↦ Some (work.Try (work_on n (suc x))) ]) (after_class version n))) [
+          | zero ↦ λ e.
+              pair-right (λ j f. is_void version n j f) (length n.nes) (length n.eqs) work.Voided (IsRight version n) work.Solved (λ j f h. h) (solved-right version n d c e)
           | suc x ↦ λ e. work-right version n x e
         ] refl
 
+    factor_step : (r : Option ℕ) → first (λ f. is_valid version n (attempt.Factor f)) (length n.eqs) ≡ r
+        → first (may_drop version n) (length n.eqs) ≡ None → first (may_close n) (length n.eqs) ≡ None
+        → IsRight version n (unwrap_or (option_map (λ f. work.Try (attempt.Factor f)) r) (after_factor version n))
+    factor_step (Some f) e d c = (inside (λ f. is_valid version n (attempt.Factor f)) f e).1
+    factor_step None e d c = class_step d c
+
+    cancel_step : first (may_drop version n) (length n.eqs) ≡ None → first (may_close n) (length n.eqs) ≡ None → IsRight version n (after_clash version n)
+    cancel_step d c =
+        pair-right (λ g q. is_valid version n (attempt.Cancel g q)) (length n.eqs) (length n.nes) (λ g q. work.Try (attempt.Cancel g q)) (IsRight version n)
+        (after_cancel version n) (λ g q h. h) (factor_step (first (λ f. is_valid version n (attempt.Factor f)) (length n.eqs)) refl d c)
+
     clash_step : (r : Option ℕ) → first (may_clash n) (length n.eqs) ≡ r
         → first (may_drop version n) (length n.eqs) ≡ None → first (may_close n) (length n.eqs) ≡ None
-        → IsRight version n (unwrap_or (option_map (λ i. work.Clashed i (number_in n.nes (item n.eqs i))) r) (unwrap_or (class_due n) work.Solved))
+        → IsRight version n (unwrap_or (option_map (λ i. work.Clashed i (number_in n.nes (item n.eqs i))) r) (after_clash version n))
     clash_step (Some i) e d c = let h = inside (may_clash n) i e in clash-right version n i h.0 h.1
-    clash_step None e d c = class_step d c
+    clash_step None e d c = cancel_step d c
 
     close_step : (r : Option ℕ) → first (may_close n) (length n.eqs) ≡ r → first (may_drop version n) (length n.eqs) ≡ None
-        → IsRight version n (unwrap_or (option_map work.Closed r) (unwrap_or (clash_due n) (unwrap_or (class_due n) work.Solved)))
+        → IsRight version n (unwrap_or (option_map work.Closed r) (unwrap_or (clash_due n) (after_clash version n)))
     close_step (Some i) e d = inside (may_close n) i e
     close_step None e d = clash_step (first (may_clash n) (length n.eqs)) refl d e
 
     drop_step : (r : Option ℕ) → first (may_drop version n) (length n.eqs) ≡ r
-        → IsRight version n (unwrap_or (option_map (λ i. work.Try (attempt.Drop i)) r)
-        (unwrap_or (close_due n) (unwrap_or (clash_due n) (unwrap_or (class_due n) work.Solved))))
+        → IsRight version n (unwrap_or (option_map (λ i. work.Try (attempt.Drop i)) r) (unwrap_or (close_due n) (unwrap_or (clash_due n) (after_clash version n))))
     drop_step (Some i) e = (inside (may_drop version n) i e).1
     drop_step None e = close_step (first (may_close n) (length n.eqs)) refl e

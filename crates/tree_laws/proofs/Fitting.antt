@@ -81,8 +81,10 @@ chain-fits (suc n) E k ps fuel below =
 outcome-with_step : (version : ℕ) (cons : List Polynomial) (m : Node) (s : Step) (p : Piece) (x : Outcome)
     → outcome_fits version cons m (with_step s p) x ≡ outcome_fits version cons m p x
 outcome-with_step version cons m s p (outcome.Split f j) = refl
+outcome-with_step version cons m s p (outcome.Factor f v) = refl
 outcome-with_step version cons m s p (outcome.Close i) = refl
 outcome-with_step version cons m s p (outcome.Clash i j) = refl
+outcome-with_step version cons m s p (outcome.Void j f) = refl
 outcome-with_step version cons m s p (outcome.System c t) = refl
 outcome-with_step version cons m s p (outcome.Open r w) = refl
 

@@ -9,11 +9,11 @@ use Rattle.poly_model.specs.Equality.{same-is}
 use Rattle.poly_model.specs.Reduction.{same, is_nonzero_constant, primitive_initial, reduction_of}
 use Rattle.proof_steps.specs.Numbers.{item, has, replaced}
 use Rattle.proof_steps.specs.Reasons.{same_reason}
-use Rattle.proof_steps.specs.Rules.{is_valid, is_triangular, reason_of, size_of}
+use Rattle.proof_steps.specs.Rules.{is_valid, is_void, is_triangular, depth_limit, factor_children, reason_for, reason_of, size_of}
 use Rattle.proof_steps.specs.Chain as chain
 use Rattle.proof_steps.specs.Chain.{Due, due_of, reducing_class, first_of_class, chain_reason, is_step, step_due, chain_fits, status_fits}
 use Rattle.proof_steps.specs.Left.{IsLeft, ListsNone, IsTold, TellsWhatIsLeft}
-use Rattle.proof_steps.specs.Trees.{same_list, lists, lists_none, outcome_fits, follow, are_trees, root_of}
+use Rattle.proof_steps.specs.Trees.{may_factor, same_list, lists, lists_none, outcome_fits, follow, are_trees, root_of}
 use Rattle.proof_steps.specs.declared.piece.ChainStep.{ChainStep}
 use Rattle.proof_steps.specs.declared.piece.LeafStatus.{LeafStatus}
 use Rattle.proof_steps.specs.declared.piece.LeafStatus.TheVariants as status
@@ -91,6 +91,9 @@ outcome-told version cons n p (outcome.Split f initial) h =
     let J = primitive_initial (item n.eqs f) in
     let a = and_parts (is_valid version n (attempt.Split f) && same_reason (reason_of version n (attempt.Split f)) None) (same initial J && lists_none p) h in
     none-listed p (and_parts (same initial J) (lists_none p) a.1).1
+outcome-told version cons n p (outcome.Factor f v) h =
+    none-listed p (and_parts (may_factor version n f v && same_reason (reason_for (depth_limit n) (factor_children n f v)) None) (lists_none p) h).1
+outcome-told version cons n p (outcome.Void j f) h = none-listed p (and_parts (is_void version n j f) (lists_none p) h).1
 outcome-told version cons n p (outcome.Close i) h = none-listed p (and_parts (has n.eqs i && is_nonzero_constant (item n.eqs i)) (lists_none p) h).1
 outcome-told version cons n p (outcome.Clash i j) h =
     none-listed p (and_parts (has n.eqs i && (has n.nes j && same (item n.eqs i) (item n.nes j))) (lists_none p) h).1

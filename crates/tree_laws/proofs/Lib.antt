@@ -9,6 +9,8 @@ pub mod Worked
 pub mod Growth
 -- what the fuel pays for
 pub mod Paid
+-- what stays valid
+pub mod Later
 -- what pieces tell
 pub mod Left
 -- what is within the limits
@@ -19,3 +21,4 @@ pub mod Ranged
 mod RowWords
 pub mod SmallTrees
 pub mod TwoLines
+pub mod SecondTrees

@@ -7,15 +7,16 @@ use Rattle.std.proofs.lemmas.Bool.{and_parts, or_parts, or_from, leb-true, ltb-t
 use Rattle.std.proofs.lemmas.Option.{same_Some}
 use Rattle.poly_model.specs.Polynomial.{Polynomial}
 use Rattle.poly_model.specs.Equality.{same-is}
-use Rattle.poly_model.specs.Reduction.{same, primitive_initial, primitive_tail, reduction_of, is_nonzero_constant}
+use Rattle.poly_model.specs.Powers.{stripped, without_variables}
+use Rattle.poly_model.specs.Reduction.{same, main_place, primitive_initial, primitive_tail, reduction_of, is_nonzero_constant}
 use Rattle.poly_model.specs.declared.limits.Reason.{Reason}
 use Rattle.poly_model.specs.declared.limits.Reason.TheVariants.{Fuel}
 use Rattle.proof_steps.specs.Numbers.{item, has, replaced}
 use Rattle.proof_steps.specs.Reasons.{same_reason}
-use Rattle.proof_steps.specs.Rules.{is_valid, is_triangular, is_short, limit_of, reason_of, size_of, sizes, made, stepped, dropped, reduced, cut, plus_child, minus_child}
+use Rattle.proof_steps.specs.Rules.{is_valid, is_void, is_triangular, is_short, depth_limit, factor_children, cancelled, limit_of, reason_for, reason_of, size_of, sizes, made, stepped, dropped, reduced, cut, plus_child, minus_child}
 use Rattle.proof_steps.specs.Chain as chain
 use Rattle.proof_steps.specs.Chain.{Due, due_of, chain_reason, is_step, step_due, chain_fits}
-use Rattle.proof_steps.specs.Trees.{step_fits, after_steps, same_list, lists, lists_none, outcome_fits, children, are_trees, root_of}
+use Rattle.proof_steps.specs.Trees.{may_factor, step_fits, after_steps, same_list, lists, lists_none, outcome_fits, children, are_trees, root_of}
 use Rattle.proof_steps.specs.declared.piece.ChainStep.{ChainStep}
 use Rattle.proof_steps.specs.declared.piece.LeafStatus.{LeafStatus}
 use Rattle.proof_steps.specs.declared.piece.Node.{Node}
@@ -26,7 +27,7 @@ use Rattle.proof_steps.specs.declared.step.Attempt.TheVariants as attempt
 use Rattle.proof_steps.specs.declared.step.Step.{Step}
 use Rattle.proof_steps.specs.declared.step.Step.TheVariants as step
 use Rattle.tree_laws.specs.Costs.{step_cost, steps_cost, chain_cost, listed_cost, outcome_cost, pieces_cost, total_fuel, HaveFuel, FuelPays, TreesArePaid, ReasonsAreRight}
-use Rattle.tree_laws.proofs.Unfold.{reason_by, size-some, not-short, holds-size, one-short}
+use Rattle.tree_laws.proofs.Unfold.{reason_by, reason_by-none, size-some, not-short, holds-size, one-short}
 use Rattle.tree_laws.proofs.Fitting.{reason-fuel}
 use Rattle.proof_steps.proofs.Following.{same_list-is, fits, none-reason, step-fits, steps-cons, first-of}
 
@@ -63,6 +64,13 @@ step-paid version n (step.Tail f r) h =
     let fits = one-short (cut n f) (not-short version n (attempt.Tail f) t.free) in
     let some = size-some (cut n f) in
     let e : length r ≡ length (primitive_tail (item n.eqs f)) = ap length (same-is r (primitive_tail (item n.eqs f)) t.tells) in
+    record { within = omega (arith, fits, some, e); enough = fits }
+step-paid version n (step.Cancel g q r) h =
+    let t = step-fits version n (step.Cancel g q r) h in
+    let fits = one-short (cancelled n g q) (not-short version n (attempt.Cancel g q) t.free) in
+    let some = size-some (cancelled n g q) in
+    let R = without_variables (item n.nes q) (item n.eqs g) in
+    let e : length r ≡ length R = ap length (same-is r R t.tells) in
     record { within = omega (arith, fits, some, e); enough = fits }
 
 steps-paid : (version : ℕ) (n : Node) (steps : List Step) (m : Node) → size_of n ≤ n.fuel → after_steps version n steps ≡ Some m → Paid n (steps_cost steps) m
@@ -124,6 +132,20 @@ outcome-paid version cons n p (outcome.Split f initial) enough h =
     let some = size-some (plus_child n J n.eqs rest) in
     let e : length initial ≡ length J = ap length (same-is initial J (and_parts (same initial J) _ a.1).0) in
     record { within = omega (arith, plus, some, e); enough = (plus, (minus, tt)) }
+outcome-paid version cons n p (outcome.Factor f v) enough h =
+    let a = and_parts (may_factor version n f v && same_reason (reason_for (depth_limit n) (factor_children n f v)) None) (lists_none p) h in
+    let free = none-reason (reason_for (depth_limit n) (factor_children n f v)) (and_parts (may_factor version n f v) _ a.0).1 in
+    let up = replaced n.eqs f (stripped (main_place v) (item n.eqs f)) in
+    let down = replaced n.eqs f v in
+    let short = or_parts (is_short (plus_child n v up down)) _ (reason_by-none (depth_limit n) (list_any is_short (factor_children n f v)) free).1 in
+    let plus = holds-size (plus_child n v up down) short.0 in
+    let minus = one-short (minus_child n v down) short.1 in
+    let some = size-some (plus_child n v up down) in
+    record { within = omega (arith, plus, some); enough = (plus, (minus, tt)) }
+outcome-paid version cons n p (outcome.Void j f) enough h =
+    let s = size-some n in
+    let l = none-cost p (and_parts (is_void version n j f) (lists_none p) h).1 in
+    record { within = omega (arith, s, enough, l); enough = tt }
 outcome-paid version cons n p (outcome.Close i) enough h =
     let s = size-some n in
     let l = none-cost p (and_parts (has n.eqs i && is_nonzero_constant (item n.eqs i)) (lists_none p) h).1 in
@@ -166,8 +188,10 @@ trees-paid version cons (p ∷ ps) (n ∷ ns) a h =
 -- each piece costs something
 some-cost : (p : Piece) (x : Outcome) → 1 ≤ outcome_cost p x
 some-cost p (outcome.Split f initial) = omega arith
+some-cost p (outcome.Factor f v) = omega arith
 some-cost p (outcome.Close i) = omega arith
 some-cost p (outcome.Clash i j) = omega arith
+some-cost p (outcome.Void j f) = omega arith
 some-cost p (outcome.System chain status) = omega arith
 some-cost p (outcome.Open reason what) = omega arith
 

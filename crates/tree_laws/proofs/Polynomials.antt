@@ -1,5 +1,5 @@
 -- What the rules make of polynomials within the limits is within them, over the same variables, and so are multipliers.
-use Rattle.std.proofs.Common.{◌≡◌, ◌≢◌, ℕ, ◌+◌, ◌-◌, ◌<◌, zero, suc, List, [], ◌∷◌, ◌++◌, length, get_or, refl, ◌∙◌, subst, arith, Bool, true, false}
+use Rattle.std.proofs.Common.{◌≡◌, ◌≢◌, ℕ, ◌+◌, ◌-◌, ◌<◌, zero, suc, List, [], ◌∷◌, ◌++◌, length, get_or, refl, sym, ◌∙◌, subst, arith, Bool, true, false}
 use Rattle.std.specs.Prelude.{ℤ, pos, negsuc, unsigned_abs, None, Result, Ok, Err, nat_lt, All}
 use Rattle.std.proofs.lemmas.Bool.{and_parts, leb-true}
 use Rattle.std.proofs.lemmas.Nat.Gcd.{le_of_dvd}
@@ -7,7 +7,11 @@ use Rattle.std.proofs.lemmas.List.Elements.{All-nil, All-cons, All-append}
 use Rattle.poly_model.specs.Polynomial.{Polynomial}
 use Rattle.poly_model.specs.Standard.{is_standard, is_bounded, are_bounded}
 use Rattle.poly_model.specs.Content.{coefficients_gcd, begins_negative, signed_by}
-use Rattle.poly_model.specs.Reduction.{main_place, main_degree, initial_of, tail_of, factor_of, parts_of, multiplier_of, primitive_initial, primitive_tail, reduction_of}
+use Rattle.poly_model.specs.Equality.{same-is}
+use Rattle.poly_model.specs.Powers.{low_at, stripped, without_variables, variable_in, is_factor, has_factor}
+use Rattle.poly_model.proofs.PowersWithin.{stripped-within, without_variables-within, variable_in-standard, over-lowered, over-without_variables, over-variable_in}
+use Rattle.proof_steps.proofs.Factors.{factor-divides}
+use Rattle.poly_model.specs.Reduction.{same, class_of, main_place, main_degree, initial_of, tail_of, factor_of, parts_of, multiplier_of, primitive_initial, primitive_tail, reduction_of}
 use Rattle.poly_model.specs.Bounded.{bounded_reduction}
 use Rattle.poly_model.specs.declared.limits.TheConstants.{MOST_VARIABLES, MOST_SIZE}
 use Rattle.poly_model.specs.declared.limits.Limit.{Limit}
@@ -61,6 +65,21 @@ pub tail-polynomial : (n : ℕ) (p : Polynomial) → IsPolynomial n p → IsPoly
 tail-polynomial n p h =
     let w = primitive-within (tail_of p) (tail-within p (within-of p h.0)) in
     (standard-of (primitive_tail p) w, over-primitive_part n (tail_of p) ∙ over-without n (main_place p) (main_degree p) p h.1)
+
+-- ---- powers of variables that divide
+pub stripped-polynomial : (n i : ℕ) (p : Polynomial) → IsPolynomial n p → IsPolynomial n (stripped i p)
+stripped-polynomial n i p h = (standard-of (stripped i p) (stripped-within i p (within-of p h.0)), over-lowered n i (low_at i p) p h.1)
+
+pub without_variables-polynomial : (n : ℕ) (q p : Polynomial) → IsPolynomial n p → IsPolynomial n (without_variables q p)
+without_variables-polynomial n q p h =
+    (standard-of (without_variables q p) (without_variables-within q p (within-of p h.0)), over-without_variables n q p h.1)
+
+pub factor-polynomial : (n : ℕ) (p v : Polynomial) → IsPolynomial n p → has_factor p v ≡ true → IsPolynomial n v
+factor-polynomial n p v h f =
+    let i = main_place v in
+    let divides = factor-divides p v f in
+    let told = same-is v (variable_in p i) (and_parts (is_factor p (class_of v)) (same v (variable_in p i)) f).1 in
+    subst (IsPolynomial n) (sym told) (variable_in-standard p i divides (within-of p h.0), over-variable_in n p i divides h.1)
 
 -- ---- multipliers
 signed-size : (turned : Bool) (m : ℕ) → unsigned_abs (signed_by turned (pos m)) ≡ m

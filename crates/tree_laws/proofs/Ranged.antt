@@ -1,6 +1,7 @@
 -- The numbers, paths and polynomials of a valid tree are within the limits.
 use Rattle.std.proofs.Common.{◌≡◌, ℕ, ◌+◌, ◌-◌, ◌<◌, ◌≤◌, zero, suc, List, [], ◌∷◌, ◌++◌, length, refl, sym, ◌∙◌, ap, subst, arith, Bool, true, false, ◌&&◌, not}
 use Rattle.std.specs.Prelude.{Some, None, nat_lt, nat_le, if◌then◌else◌, ◌==◌, All}
+use Rattle.std.specs.List.{list_any}
 use Rattle.std.specs.Ordering.{int_eq}
 use Rattle.std.proofs.lemmas.Bool.{and_parts, leb-true, eqb-true, eq-eqb}
 use Rattle.std.proofs.lemmas.Bool.Decides.{Decides-int_eq}
@@ -9,15 +10,16 @@ use Rattle.std.proofs.lemmas.List.Elements.{All-nil, All-cons, All-set}
 use Rattle.std.proofs.lemmas.Option.{same_Some}
 use Rattle.poly_model.specs.Polynomial.{Polynomial}
 use Rattle.poly_model.specs.Equality.{same-is}
-use Rattle.poly_model.specs.Reduction.{same, is_nonzero_constant, primitive_initial, primitive_tail, reduction_of}
+use Rattle.poly_model.specs.Powers.{stripped, without_variables, has_factor}
+use Rattle.poly_model.specs.Reduction.{same, is_constant, main_place, is_nonzero_constant, primitive_initial, primitive_tail, reduction_of}
 use Rattle.poly_model.specs.declared.limits.Reason.TheVariants as reason
 use Rattle.poly_model.specs.declared.limits.TheConstants.{MOST_LETTERS, MOST_HYPOTHESES, MOST_CONCLUSIONS}
 use Rattle.proof_steps.specs.Numbers.{item, has, without_place, replaced}
 use Rattle.proof_steps.specs.Reasons.{same_reason}
-use Rattle.proof_steps.specs.Rules.{is_valid, is_triangular, limit_of, reason_of, size_of, stepped}
+use Rattle.proof_steps.specs.Rules.{has_second, is_valid, is_void, is_triangular, is_short, depth_limit, factor_children, limit_of, reason_for, reason_of, size_of, stepped}
 use Rattle.proof_steps.specs.Chain as chain
 use Rattle.proof_steps.specs.Chain.{Due, due_of, chain_reason, is_step, step_due, chain_fits, status_fits}
-use Rattle.proof_steps.specs.Trees.{after_steps, same_list, lists, lists_none, outcome_fits, children, follow, are_trees, root_of}
+use Rattle.proof_steps.specs.Trees.{may_factor, after_steps, same_list, lists, lists_none, outcome_fits, children, follow, are_trees, root_of}
 use Rattle.proof_steps.specs.declared.piece.ChainStep.{ChainStep}
 use Rattle.proof_steps.specs.declared.piece.LeafStatus.{LeafStatus}
 use Rattle.proof_steps.specs.declared.piece.LeafStatus.TheVariants as status
@@ -32,7 +34,8 @@ use Rattle.proof_steps.specs.declared.step.Step.TheVariants as step
 use Rattle.tree_laws.specs.Ranges.{IsEquation, IsCondition, IsConclusion, IsMultiplier, IsPolynomial, IsAttempt, IsStep, IsChainStep, IsStatus, IsOutcome, IsPiece, TreesAreWithinLimits}
 use Rattle.proof_steps.proofs.Following.{same_list-is, fits, none-reason, StepFits, step-fits, steps-cons, first-of}
 use Rattle.tree_laws.proofs.Paid.{reasons-are-right}
-use Rattle.tree_laws.proofs.Polynomials.{item-polynomial, without-polynomials, more-polynomials, initial-polynomial, tail-polynomial, reduced-within, chain-free}
+use Rattle.tree_laws.proofs.Polynomials.{item-polynomial, without-polynomials, more-polynomials, initial-polynomial, tail-polynomial, stripped-polynomial, without_variables-polynomial, factor-polynomial, reduced-within, chain-free}
+use Rattle.tree_laws.proofs.Unfold.{reason_by-none}
 use Rattle.tree_laws.proofs.Chains.{Stands, stands}
 
 -- ---- a node within the limits: an equation more for each letter, and a condition for each letter
@@ -91,6 +94,12 @@ valid-attempt version n m (attempt.Red g f) r h =
     let b = and_parts (has m.eqs g) (has m.eqs f && not (g == f)) a.0 in
     (equation-there n m g r b.0, equation-there n m f r (and_parts (has m.eqs f) (not (g == f)) b.1).0)
 valid-attempt version n m (attempt.Tail f) r h = equation-there n m f r (and_parts (has m.eqs f) _ h).0
+valid-attempt version n m (attempt.Cancel g q) r h =
+    let a = and_parts (has_second version && (has m.eqs g && has m.nes q)) _ h in
+    let b = and_parts (has m.eqs g) (has m.nes q) (and_parts (has_second version) _ a.0).1 in
+    (equation-there n m g r b.0, condition-there n m q r b.1)
+valid-attempt version n m (attempt.Factor f) r h =
+    equation-there n m f r (and_parts (has_second version) (has m.eqs f) (and_parts (has_second version && has m.eqs f) _ h).0).1
 valid-attempt version n m (attempt.Split f) r h = equation-there n m f r (and_parts (has m.eqs f) _ h).0
 
 -- a rule that nothing stops meets no limit
@@ -152,6 +161,24 @@ step-within version n m (step.Tail f q) r t =
         nes = r.nes;
       };
     }
+step-within version n m (step.Cancel g q p) r t =
+    let Q = item m.nes q in
+    let R = without_variables Q (item m.eqs g) in
+    let made = without_variables-polynomial n Q (item m.eqs g) (item-polynomial n m.eqs g r.eqs) in
+    let result : p ≡ R = same-is p R t.tells in
+    let v = valid-attempt version n m (attempt.Cancel g q) r t.valid in
+    let e = r.equations in
+    let k = length-set m.eqs (g - 1) R in
+    record {
+      told = (v.0, v.1, subst (IsPolynomial n) (sym result) made);
+      left = record {
+        letters = r.letters;
+        equations = omega (arith, e, k);
+        conditions = r.conditions;
+        eqs = All-set (IsPolynomial n) m.eqs (g - 1) R made r.eqs;
+        nes = r.nes;
+      };
+    }
 
 record After (n : ℕ) (steps : List Step) (m : Node) : Type 0 where
   told : All (IsStep n) steps
@@ -166,9 +193,9 @@ steps-within version n m (s ∷ steps) end r h =
     record { told = All-cons (IsStep n) s steps one.told others.told; left = others.left }
 
 -- ---- children
--- a split is not at a path that is full
-not-full : (version : ℕ) (m : Node) (f : ℕ) → length m.path ≤ MOST_LETTERS → reason_of version m (attempt.Split f) ≡ None → length m.path < MOST_LETTERS
-not-full version m f low free = by (length m.path == MOST_LETTERS) refl (unlimited version m (attempt.Split f) free)
+-- a node is not parted at a path that is full
+not-full : (m : Node) → length m.path ≤ MOST_LETTERS → depth_limit m ≡ None → length m.path < MOST_LETTERS
+not-full m low free = by (length m.path == MOST_LETTERS) refl free
   where
     less : (a b : ℕ) → a ≤ b → (a ≡ b → ⊥) → a < b
     less a b l n = grind arith
@@ -272,7 +299,7 @@ outcome-within version n cons m p (outcome.Split f initial) r few all h =
     let a = and_parts (is_valid version m (attempt.Split f) && same_reason (reason_of version m (attempt.Split f)) None) (same initial J && lists_none p) h in
     let b = and_parts (is_valid version m (attempt.Split f)) (same_reason (reason_of version m (attempt.Split f)) None) a.0 in
     let told : initial ≡ J = same-is initial J (and_parts (same initial J) (lists_none p) a.1).0 in
-    let room = not-full version m f r.letters (none-reason (reason_of version m (attempt.Split f)) b.1) in
+    let room = not-full m r.letters (unlimited version m (attempt.Split f) (none-reason (reason_of version m (attempt.Split f)) b.1)) in
     let up = length-more m.path true in
     let down = length-more m.path false in
     let gains = length-more m.nes J in
@@ -302,6 +329,49 @@ outcome-within version n cons m p (outcome.Split f initial) r few all h =
         ),
       );
     }
+outcome-within version n cons m p (outcome.Factor f v) r few all h =
+    let F = item m.eqs f in
+    let S = stripped (main_place v) F in
+    let equation = item-polynomial n m.eqs f r.eqs in
+    let a = and_parts (may_factor version m f v && same_reason (reason_for (depth_limit m) (factor_children m f v)) None) (lists_none p) h in
+    let b = and_parts (may_factor version m f v) _ a.0 in
+    let c = and_parts (has_second version && has m.eqs f) _ b.0 in
+    let variable = factor-polynomial n F v equation (and_parts (not (is_constant F)) (has_factor F v) c.1).1 in
+    let free = none-reason (reason_for (depth_limit m) (factor_children m f v)) b.1 in
+    let room = not-full m r.letters (reason_by-none (depth_limit m) (list_any is_short (factor_children m f v)) free).0 in
+    let up = length-more m.path true in
+    let down = length-more m.path false in
+    let gains = length-more m.nes v in
+    let divided = length-set m.eqs (f - 1) S in
+    let kept = length-set m.eqs (f - 1) v in
+    let e = r.equations in
+    let k = r.conditions in
+    record {
+      told = (equation-there n m f r (and_parts (has_second version) (has m.eqs f) c.0).1, variable);
+      nodes = (
+        record {
+          letters = omega (arith, up, room);
+          equations = omega (arith, e, up, divided);
+          conditions = omega (arith, k, up, gains);
+          eqs = All-set (IsPolynomial n) m.eqs (f - 1) S (stripped-polynomial n (main_place v) F equation) r.eqs;
+          nes = more-polynomials n m.nes v r.nes variable;
+        },
+        (
+          record {
+            letters = omega (arith, down, room);
+            equations = omega (arith, e, down, kept);
+            conditions = omega (arith, k, down);
+            eqs = All-set (IsPolynomial n) m.eqs (f - 1) v variable r.eqs;
+            nes = r.nes;
+          },
+          tt,
+        ),
+      );
+    }
+outcome-within version n cons m p (outcome.Void j f) r few all h =
+    let a = and_parts (has_second version && (has m.nes j && has m.eqs f)) _ (and_parts (is_void version m j f) _ h).0 in
+    let b = and_parts (has m.nes j) (has m.eqs f) (and_parts (has_second version) _ a.0).1 in
+    record { told = (condition-there n m j r b.0, equation-there n m f r b.1); nodes = tt }
 outcome-within version n cons m p (outcome.Close i) r few all h =
     record { told = equation-there n m i r (and_parts (has m.eqs i) _ (and_parts (has m.eqs i && is_nonzero_constant (item m.eqs i)) _ h).0).0; nodes = tt }
 outcome-within version n cons m p (outcome.Clash i j) r few all h =
@@ -349,6 +419,9 @@ listed-within version n cons m p (outcome.Split f initial) r h =
     let J = primitive_initial (item m.eqs f) in
     let a = and_parts (is_valid version m (attempt.Split f) && same_reason (reason_of version m (attempt.Split f)) None) (same initial J && lists_none p) h in
     listed-none n m p (and_parts (same initial J) (lists_none p) a.1).1
+listed-within version n cons m p (outcome.Factor f v) r h =
+    listed-none n m p (and_parts (may_factor version m f v && same_reason (reason_for (depth_limit m) (factor_children m f v)) None) (lists_none p) h).1
+listed-within version n cons m p (outcome.Void j f) r h = listed-none n m p (and_parts (is_void version m j f) (lists_none p) h).1
 listed-within version n cons m p (outcome.Close i) r h = listed-none n m p (and_parts (has m.eqs i && is_nonzero_constant (item m.eqs i)) (lists_none p) h).1
 listed-within version n cons m p (outcome.Clash i j) r h =
     listed-none n m p (and_parts (has m.eqs i && (has m.nes j && same (item m.eqs i) (item m.nes j))) (lists_none p) h).1

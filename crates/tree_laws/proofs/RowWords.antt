@@ -22,3 +22,9 @@ leaf path steps eqs nes chain status = record { path = path; steps = steps; eqs 
 
 abbrev pub chain_step : (k f : ℕ) → ℤ → Polynomial → ChainStep
 chain_step k f m r = record { k = k; f = f; m = m; r = r }
+
+abbrev pub factoring : List Bool → List Step → ℕ → Polynomial → Piece
+factoring path steps f v = record { path = path; steps = steps; eqs = []; nes = []; outcome = outcome.Factor f v }
+
+abbrev pub clashing : List Bool → List Step → (i j : ℕ) → Piece
+clashing path steps i j = record { path = path; steps = steps; eqs = []; nes = []; outcome = outcome.Clash i j }

@@ -18,29 +18,29 @@ use Rattle.proof_steps.specs.declared.step.Step.TheVariants.{Drop}
 use Rattle.tree_laws.proofs.RowWords.{plus, minus, parting, leaf, chain_step}
 
 -- ---- four midpoints: one leaf; the variables are u1, u2, u3, x1, x2, x3, x4
-abbrev _2*x1-u2 : Polynomial
+abbrev pub _2*x1-u2 : Polynomial
 _2*x1-u2 = ((0 ∷ 0 ∷ 0 ∷ 1 ∷ 0 ∷ 0 ∷ 0 ∷ []), pos 2) ∷ ((0 ∷ 1 ∷ 0 ∷ 0 ∷ 0 ∷ 0 ∷ 0 ∷ []), negsuc 0) ∷ []
 
-abbrev _2*x2-u3 : Polynomial
+abbrev pub _2*x2-u3 : Polynomial
 _2*x2-u3 = ((0 ∷ 0 ∷ 0 ∷ 0 ∷ 1 ∷ 0 ∷ 0 ∷ []), pos 2) ∷ ((0 ∷ 0 ∷ 1 ∷ 0 ∷ 0 ∷ 0 ∷ 0 ∷ []), negsuc 0) ∷ []
 
-abbrev _2*x3-u2-u1 : Polynomial
+abbrev pub _2*x3-u2-u1 : Polynomial
 _2*x3-u2-u1 = ((0 ∷ 0 ∷ 0 ∷ 0 ∷ 0 ∷ 1 ∷ 0 ∷ []), pos 2) ∷ ((0 ∷ 1 ∷ 0 ∷ 0 ∷ 0 ∷ 0 ∷ 0 ∷ []), negsuc 0) ∷ ((1 ∷ 0 ∷ 0 ∷ 0 ∷ 0 ∷ 0 ∷ 0 ∷ []), negsuc 0) ∷ []
 
-abbrev _2*x4-u3 : Polynomial
+abbrev pub _2*x4-u3 : Polynomial
 _2*x4-u3 = ((0 ∷ 0 ∷ 0 ∷ 0 ∷ 0 ∷ 0 ∷ 1 ∷ []), pos 2) ∷ ((0 ∷ 0 ∷ 1 ∷ 0 ∷ 0 ∷ 0 ∷ 0 ∷ []), negsuc 0) ∷ []
 
-abbrev u1*x4-u1*x2 : Polynomial
+abbrev pub u1*x4-u1*x2 : Polynomial
 u1*x4-u1*x2 = ((1 ∷ 0 ∷ 0 ∷ 0 ∷ 0 ∷ 0 ∷ 1 ∷ []), pos 1) ∷ ((1 ∷ 0 ∷ 0 ∷ 0 ∷ 1 ∷ 0 ∷ 0 ∷ []), negsuc 0) ∷ []
 
-abbrev _2*u1*x2-u1*u3 : Polynomial
+abbrev pub _2*u1*x2-u1*u3 : Polynomial
 _2*u1*x2-u1*u3 = ((1 ∷ 0 ∷ 0 ∷ 0 ∷ 1 ∷ 0 ∷ 0 ∷ []), pos 2) ∷ ((1 ∷ 0 ∷ 1 ∷ 0 ∷ 0 ∷ 0 ∷ 0 ∷ []), negsuc 0) ∷ []
 
-abbrev midpoints : Problem
+abbrev pub midpoints : Problem
 midpoints =
     record { vars = (U 1 ∷ U 2 ∷ U 3 ∷ X 1 ∷ X 2 ∷ X 3 ∷ X 4 ∷ []); hyps = (_2*x1-u2 ∷ _2*x2-u3 ∷ _2*x3-u2-u1 ∷ _2*x4-u3 ∷ []); cons = (u1*x4-u1*x2 ∷ []) }
 
-abbrev midpoints-tree : List Piece
+abbrev pub midpoints-tree : List Piece
 midpoints-tree =
     leaf [] [] (_2*x1-u2 ∷ _2*x2-u3 ∷ _2*x3-u2-u1 ∷ _2*x4-u3 ∷ []) [] (chain_step 1 4 (negsuc 0) _2*u1*x2-u1*u3 ∷ chain_step 1 2 (pos 1) [] ∷ []) Proved
     ∷ []
@@ -50,16 +50,16 @@ unfolding reduction_limit chain_within expansion_within tree_within
 midpoints-grows = refl
 
 -- ---- one hypothesis twice: three pieces; the variables are u1, x1, x2
-abbrev u1*x2 : Polynomial
+abbrev pub u1*x2 : Polynomial
 u1*x2 = ((1 ∷ 0 ∷ 1 ∷ []), pos 1) ∷ []
 
-abbrev u1 : Polynomial
+abbrev pub u1 : Polynomial
 u1 = ((1 ∷ 0 ∷ 0 ∷ []), pos 1) ∷ []
 
-abbrev twice : Problem
+abbrev pub twice : Problem
 twice = record { vars = (U 1 ∷ X 1 ∷ X 2 ∷ []); hyps = (u1*x2 ∷ u1*x2 ∷ []); cons = (u1*x2 ∷ []) }
 
-abbrev twice-tree : List Piece
+abbrev pub twice-tree : List Piece
 twice-tree =
     parting [] (Drop 2 ∷ []) 1 u1
     ∷ leaf (plus ∷ []) [] (u1*x2 ∷ []) (u1 ∷ []) (chain_step 1 1 (pos 1) [] ∷ []) Proved
@@ -71,19 +71,19 @@ unfolding reduction_limit chain_within expansion_within tree_within
 twice-grows = refl
 
 -- ---- nodes at the limits of depth, fuel and degree; the variables are u1, x1
-abbrev u1*x1 : Polynomial
+abbrev pub u1*x1 : Polynomial
 u1*x1 = ((1 ∷ 1 ∷ []), pos 1) ∷ []
 
-abbrev u1^30 : Polynomial
+abbrev pub u1^30 : Polynomial
 u1^30 = ((30 ∷ 0 ∷ []), pos 1) ∷ []
 
-abbrev u1^30*x1 : Polynomial
+abbrev pub u1^30*x1 : Polynomial
 u1^30*x1 = ((30 ∷ 1 ∷ []), pos 1) ∷ []
 
-abbrev u1^40*x1+1 : Polynomial
+abbrev pub u1^40*x1+1 : Polynomial
 u1^40*x1+1 = ((40 ∷ 1 ∷ []), pos 1) ∷ ((0 ∷ 0 ∷ []), pos 1) ∷ []
 
-abbrev edge : List Bool → ℕ → Node
+abbrev pub edge : List Bool → ℕ → Node
 edge path fuel = record { path = path; eqs = u1*x1 ∷ []; nes = []; fuel = fuel }
 
 no_letter_left : expansion_of 1 [] (edge (replicate MOST_LETTERS plus) MOST_FUEL)
@@ -100,7 +100,7 @@ fuel_is_parted : map (λ (n : Node). n.fuel) (expansion_of 1 [] (edge [] 100)).1
 unfolding expansion_within
 fuel_is_parted = refl
 
-abbrev steep : Node
+abbrev pub steep : Node
 steep = record { path = []; eqs = u1^40*x1+1 ∷ u1^30*x1 ∷ []; nes = u1^30 ∷ []; fuel = 1000 }
 
 degree_is_met : expansion_of 1 [] steep

@@ -15,70 +15,70 @@ use Rattle.proof_steps.specs.declared.step.Step.TheVariants.{Drop, Red, Tail}
 use Rattle.tree_laws.proofs.RowWords.{plus, minus, parting, leaf, chain_step}
 
 -- ---- two lines that may be parallel; the variables are u1, u2, u3, x1, x2
-abbrev u3*x2+u2*x1-u1*x1 : Polynomial
+abbrev pub u3*x2+u2*x1-u1*x1 : Polynomial
 u3*x2+u2*x1-u1*x1 = ((0 ∷ 0 ∷ 1 ∷ 0 ∷ 1 ∷ []), pos 1) ∷ ((0 ∷ 1 ∷ 0 ∷ 1 ∷ 0 ∷ []), pos 1) ∷ ((1 ∷ 0 ∷ 0 ∷ 1 ∷ 0 ∷ []), negsuc 0) ∷ []
 
-abbrev u3*x2+u2*x1-u1*u2 : Polynomial
+abbrev pub u3*x2+u2*x1-u1*u2 : Polynomial
 u3*x2+u2*x1-u1*u2 = ((0 ∷ 0 ∷ 1 ∷ 0 ∷ 1 ∷ []), pos 1) ∷ ((0 ∷ 1 ∷ 0 ∷ 1 ∷ 0 ∷ []), pos 1) ∷ ((1 ∷ 1 ∷ 0 ∷ 0 ∷ 0 ∷ []), negsuc 0) ∷ []
 
-abbrev u1*x1-u1*u2 : Polynomial
+abbrev pub u1*x1-u1*u2 : Polynomial
 u1*x1-u1*u2 = ((1 ∷ 0 ∷ 0 ∷ 1 ∷ 0 ∷ []), pos 1) ∷ ((1 ∷ 1 ∷ 0 ∷ 0 ∷ 0 ∷ []), negsuc 0) ∷ []
 
-abbrev u3 : Polynomial
+abbrev pub u3 : Polynomial
 u3 = ((0 ∷ 0 ∷ 1 ∷ 0 ∷ 0 ∷ []), pos 1) ∷ []
 
-abbrev u1*u3*x1-u1*u2*u3 : Polynomial
+abbrev pub u1*u3*x1-u1*u2*u3 : Polynomial
 u1*u3*x1-u1*u2*u3 = ((1 ∷ 0 ∷ 1 ∷ 1 ∷ 0 ∷ []), pos 1) ∷ ((1 ∷ 1 ∷ 1 ∷ 0 ∷ 0 ∷ []), negsuc 0) ∷ []
 
-abbrev u1*u3 : Polynomial
+abbrev pub u1*u3 : Polynomial
 u1*u3 = ((1 ∷ 0 ∷ 1 ∷ 0 ∷ 0 ∷ []), pos 1) ∷ []
 
-abbrev u1*u2 : Polynomial
+abbrev pub u1*u2 : Polynomial
 u1*u2 = ((1 ∷ 1 ∷ 0 ∷ 0 ∷ 0 ∷ []), pos 1) ∷ []
 
-abbrev u1*u2*u3 : Polynomial
+abbrev pub u1*u2*u3 : Polynomial
 u1*u2*u3 = ((1 ∷ 1 ∷ 1 ∷ 0 ∷ 0 ∷ []), pos 1) ∷ []
 
-abbrev u1 : Polynomial
+abbrev pub u1 : Polynomial
 u1 = ((1 ∷ 0 ∷ 0 ∷ 0 ∷ 0 ∷ []), pos 1) ∷ []
 
-abbrev u1^2*x1 : Polynomial
+abbrev pub u1^2*x1 : Polynomial
 u1^2*x1 = ((2 ∷ 0 ∷ 0 ∷ 1 ∷ 0 ∷ []), pos 1) ∷ []
 
-abbrev u2*x1-u1*u2 : Polynomial
+abbrev pub u2*x1-u1*u2 : Polynomial
 u2*x1-u1*u2 = ((0 ∷ 1 ∷ 0 ∷ 1 ∷ 0 ∷ []), pos 1) ∷ ((1 ∷ 1 ∷ 0 ∷ 0 ∷ 0 ∷ []), negsuc 0) ∷ []
 
-abbrev u2-u1 : Polynomial
+abbrev pub u2-u1 : Polynomial
 u2-u1 = ((0 ∷ 1 ∷ 0 ∷ 0 ∷ 0 ∷ []), pos 1) ∷ ((1 ∷ 0 ∷ 0 ∷ 0 ∷ 0 ∷ []), negsuc 0) ∷ []
 
-abbrev u1*u2^2-u1^2*u2 : Polynomial
+abbrev pub u1*u2^2-u1^2*u2 : Polynomial
 u1*u2^2-u1^2*u2 = ((1 ∷ 2 ∷ 0 ∷ 0 ∷ 0 ∷ []), pos 1) ∷ ((2 ∷ 1 ∷ 0 ∷ 0 ∷ 0 ∷ []), negsuc 0) ∷ []
 
-abbrev u2*x1-u1*x1 : Polynomial
+abbrev pub u2*x1-u1*x1 : Polynomial
 u2*x1-u1*x1 = ((0 ∷ 1 ∷ 0 ∷ 1 ∷ 0 ∷ []), pos 1) ∷ ((1 ∷ 0 ∷ 0 ∷ 1 ∷ 0 ∷ []), negsuc 0) ∷ []
 
-abbrev u1^2 : Polynomial
+abbrev pub u1^2 : Polynomial
 u1^2 = ((2 ∷ 0 ∷ 0 ∷ 0 ∷ 0 ∷ []), pos 1) ∷ []
 
-abbrev u1^2*u2 : Polynomial
+abbrev pub u1^2*u2 : Polynomial
 u1^2*u2 = ((2 ∷ 1 ∷ 0 ∷ 0 ∷ 0 ∷ []), pos 1) ∷ []
 
-abbrev u1^4*u2 : Polynomial
+abbrev pub u1^4*u2 : Polynomial
 u1^4*u2 = ((4 ∷ 1 ∷ 0 ∷ 0 ∷ 0 ∷ []), pos 1) ∷ []
 
-abbrev u1*u2^2 : Polynomial
+abbrev pub u1*u2^2 : Polynomial
 u1*u2^2 = ((1 ∷ 2 ∷ 0 ∷ 0 ∷ 0 ∷ []), pos 1) ∷ []
 
-abbrev u2 : Polynomial
+abbrev pub u2 : Polynomial
 u2 = ((0 ∷ 1 ∷ 0 ∷ 0 ∷ 0 ∷ []), pos 1) ∷ []
 
-abbrev u1*x1 : Polynomial
+abbrev pub u1*x1 : Polynomial
 u1*x1 = ((1 ∷ 0 ∷ 0 ∷ 1 ∷ 0 ∷ []), pos 1) ∷ []
 
-abbrev two_lines : Problem
+abbrev pub two_lines : Problem
 two_lines = record { vars = (U 1 ∷ U 2 ∷ U 3 ∷ X 1 ∷ X 2 ∷ []); hyps = (u3*x2+u2*x1-u1*x1 ∷ u3*x2+u2*x1-u1*u2 ∷ []); cons = (u1*x1-u1*u2 ∷ []) }
 
-abbrev two_lines-tree : List Piece
+abbrev pub two_lines-tree : List Piece
 two_lines-tree =
     parting [] [] 1 u3
     ∷ parting (plus ∷ []) (Red 2 1 (pos 1) u1*u3*x1-u1*u2*u3 ∷ []) 2 u1*u3

@@ -4,7 +4,7 @@ use Rattle.std.specs.Prelude.{Option, Some, None, if◌then◌else◌}
 use Rattle.std.specs.List.{list_any}
 use Rattle.std.proofs.lemmas.Bool.{or_parts, ltb-false}
 use Rattle.poly_model.specs.Polynomial.{Polynomial}
-use Rattle.proof_steps.specs.Rules.{limit_of, is_short, reason_of, size_of, made, stepped, dropped, reduced, cut}
+use Rattle.proof_steps.specs.Rules.{limit_of, is_short, reason_of, size_of, made, stepped, dropped, reduced, cut, cancelled}
 use Rattle.proof_steps.specs.Work as work
 use Rattle.proof_steps.specs.Work.{Next, next}
 use Rattle.proof_steps.specs.Trees.{Recorded, AsStep, AsOutcome, recorded_as, with_step, expansion_recorded, expansion_tried, expansion_by, expansion_within, expansion_of}
@@ -64,13 +64,19 @@ stepped-fit version n (attempt.Tail f) s free e =
     let fits = one-short (cut n f) (not-short version n (attempt.Tail f) free) in
     let some = size-some (cut n f) in
     subst (λ t. Fit n (stepped n t)) (ap (step_or s) e) (record { less = omega (arith, fits, some); enough = fits })
+stepped-fit version n (attempt.Cancel g q) s free e =
+    let fits = one-short (cancelled n g q) (not-short version n (attempt.Cancel g q) free) in
+    let some = size-some (cancelled n g q) in
+    subst (λ t. Fit n (stepped n t)) (ap (step_or s) e) (record { less = omega (arith, fits, some); enough = fits })
 stepped-fit version n (attempt.Split f) s free e = absurd (let h : true ≡ false = ap is_outcome e in cc)
+stepped-fit version n (attempt.Factor f) s free e = absurd (let h : true ≡ false = ap is_outcome e in cc)
 
 -- two ways to go on that agree where the fuel is less
 by-same : (p q : Node → Piece × List Node) (version : ℕ) (cons : List Polynomial) (n : Node) → ((m : Node) → m.fuel < n.fuel → size_of m ≤ m.fuel → p m ≡ q m)
     → (x : Next) → expansion_by p version cons n x ≡ expansion_by q version cons n x
 by-same p q version cons n h (work.Closed i) = refl
 by-same p q version cons n h (work.Clashed i j) = refl
+by-same p q version cons n h (work.Voided j f) = refl
 by-same p q version cons n h work.Solved = refl
 by-same p q version cons n h (work.Try a) = tried (reason_of version n a) refl
   where

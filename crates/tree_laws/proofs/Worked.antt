@@ -1,16 +1,18 @@
 -- The work on a node: its piece follows from it, and its children have fuel for their sizes, and less than the node.
-use Rattle.std.proofs.Common.{◌≡◌, ℕ, ◌-◌, ◌<◌, ◌≤◌, zero, suc, List, [], ◌∷◌, ◌++◌, refl, ◌∙◌, arith, true}
-use Rattle.std.specs.Prelude.{Option, Some, None}
+use Rattle.std.proofs.Common.{◌≡◌, ℕ, ◌-◌, ◌<◌, ◌≤◌, zero, suc, List, [], ◌∷◌, ◌++◌, refl, ◌∙◌, arith, true, ◌&&◌, not}
+use Rattle.std.specs.Prelude.{Option, Some, None, is_some}
 use Rattle.std.specs.Ordering.{int_eq}
-use Rattle.std.proofs.lemmas.Bool.{and_from, or_parts}
+use Rattle.std.proofs.lemmas.Bool.{and_parts, and_from, or_parts}
 use Rattle.poly_model.specs.Polynomial.{Polynomial}
 use Rattle.proof_steps.specs.Numbers.{item, has, replaced}
-use Rattle.poly_model.specs.Reduction.{same, primitive_initial, primitive_tail, reduction_of}
-use Rattle.proof_steps.specs.Rules.{is_valid, is_triangular, is_short, reason_of, size_of, attempt_of, tells_result, stepped, dropped, reduced, cut, plus_child, minus_child}
+use Rattle.poly_model.specs.Powers.{stripped, without_variables}
+use Rattle.proof_steps.proofs.Factors.{least-has}
+use Rattle.poly_model.specs.Reduction.{same, is_constant, main_place, primitive_initial, primitive_tail, reduction_of}
+use Rattle.proof_steps.specs.Rules.{has_second, least_factor, least_variable, is_void, cancelled, is_valid, is_triangular, is_short, reason_of, size_of, attempt_of, tells_result, stepped, dropped, reduced, cut, plus_child, minus_child}
 use Rattle.proof_steps.specs.Chain.{chain_of}
 use Rattle.proof_steps.specs.Work as work
 use Rattle.proof_steps.specs.Work.{Next, next}
-use Rattle.proof_steps.specs.Trees.{follow, recorded_as, with_step, expansion_recorded, expansion_tried, expansion_by, expansion_within}
+use Rattle.proof_steps.specs.Trees.{may_factor, follow, recorded_as, with_step, expansion_recorded, expansion_tried, expansion_by, expansion_within}
 use Rattle.proof_steps.specs.declared.piece.Node.{Node}
 use Rattle.proof_steps.specs.declared.piece.Piece.{Piece}
 use Rattle.proof_steps.specs.declared.piece.Outcome.TheVariants as outcome
@@ -73,6 +75,28 @@ worked (suc k) version cons n low enough = by (next version n) (next-right versi
         let some = size-some (cut n f) in
         let T = primitive_tail (item n.eqs f) in
         stepping version cons n (step.Tail f T) _ valid free (same-self T) refl (omega arith) (more (cut n f) (omega (arith, fits, some, low)) fits)
+    recorded more (attempt.Cancel g q) valid free =
+        let fits = one-short (cancelled n g q) (not-short version n (attempt.Cancel g q) free) in
+        let some = size-some (cancelled n g q) in
+        let R = without_variables (item n.nes q) (item n.eqs g) in
+        stepping version cons n (step.Cancel g q R) _ valid free (same-self R) refl (omega arith) (more (cancelled n g q) (omega (arith, fits, some, low)) fits)
+    recorded more (attempt.Factor f) valid free =
+        let F = item n.eqs f in
+        let v = least_variable F in
+        let up = replaced n.eqs f (stripped (main_place v) F) in
+        let down = replaced n.eqs f v in
+        let short = or_parts (is_short (plus_child n v up down)) _ (not-short version n (attempt.Factor f) free) in
+        let plus = holds-size (plus_child n v up down) short.0 in
+        let minus = one-short (minus_child n v down) short.1 in
+        let some = size-some (plus_child n v up down) in
+        let a = and_parts (has_second version && has n.eqs f) _ valid in
+        let b = and_parts (not (is_constant F)) (is_some (least_factor F)) a.1 in
+        record {
+          follows = follow-bare version cons n (outcome.Factor f v)
+              (and_from _ _ (and_from (may_factor version n f v) _ (and_from _ _ a.0 (and_from _ _ b.0 (least-has F b.1))) (same_reason-is _ _ free)) refl);
+          smaller = (omega (arith, plus, some), plus, (omega (arith, plus, some), minus, tt));
+          total = omega (arith, plus, some);
+        }
     recorded more (attempt.Split f) valid free =
         let J = primitive_initial (item n.eqs f) in
         let rest = replaced n.eqs f (primitive_tail (item n.eqs f)) ++ J ∷ [] in
@@ -109,6 +133,12 @@ worked (suc k) version cons n low enough = by (next version n) (next-right versi
     by (work.Clashed i j) r more =
         record {
           follows = follow-bare version cons n (outcome.Clash i j) (and_from _ _ (and_from (has n.eqs i) _ r.0 (and_from (has n.nes j) _ r.1 r.2)) refl);
+          smaller = tt;
+          total = (let s = size-some n in omega (arith, s, enough));
+        }
+    by (work.Voided j f) r more =
+        record {
+          follows = follow-bare version cons n (outcome.Void j f) (and_from (is_void version n j f) _ r refl);
           smaller = tt;
           total = (let s = size-some n in omega (arith, s, enough));
         }

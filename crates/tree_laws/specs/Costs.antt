@@ -22,6 +22,7 @@ abbrev pub step_cost : Step → ℕ
 step_cost (step.Drop i) = 1
 step_cost (step.Red g f m r) = 1 + length r
 step_cost (step.Tail f r) = 1 + length r
+step_cost (step.Cancel g q r) = 1 + length r
 
 abbrev pub steps_cost : List Step → ℕ
 steps_cost [] = 0
@@ -31,14 +32,17 @@ abbrev pub chain_cost : List ChainStep → ℕ
 chain_cost [] = 0
 chain_cost (c ∷ chain) = 1 + length c.r + chain_cost chain
 
--- A split costs 1, and the terms of what its first child gains. A leaf costs the size of what it lists, and its chain.
+-- A split or a factor costs 1, and the terms of what its first child gains. A leaf costs the size of what it lists, and
+-- its chain.
 abbrev pub listed_cost : Piece → ℕ
 listed_cost p = 4 + sizes p.eqs + sizes p.nes
 
 abbrev pub outcome_cost : Piece → Outcome → ℕ
 outcome_cost p (outcome.Split f initial) = 1 + length initial
+outcome_cost p (outcome.Factor f v) = 1 + length v
 outcome_cost p (outcome.Close i) = listed_cost p
 outcome_cost p (outcome.Clash i j) = listed_cost p
+outcome_cost p (outcome.Void j f) = listed_cost p
 outcome_cost p (outcome.System chain status) = listed_cost p + chain_cost chain
 outcome_cost p (outcome.Open reason what) = listed_cost p
 

@@ -26,3 +26,8 @@ abbrev pub TreesTellWhatIsLeft : Type 0
 TreesTellWhatIsLeft =
     (version : ℕ) (problem : Problem) (fuel : ℕ) (ps : List Piece) → IsTrue (is_tree_of version problem fuel ps)
     → All (TellsWhatIsLeft problem.cons) ps
+
+-- A valid tree is valid in each later version, with the same fuel.
+abbrev pub TreesStay : Type 0
+TreesStay = (version later : ℕ) → version ≤ later → (problem : Problem) (fuel : ℕ) (ps : List Piece) → IsTrue (is_tree_of version problem fuel ps)
+    → IsTrue (is_tree_of later problem fuel ps)

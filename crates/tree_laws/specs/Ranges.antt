@@ -38,12 +38,15 @@ abbrev pub IsAttempt : Attempt → Type 0
 IsAttempt (attempt.Drop i) = IsEquation i
 IsAttempt (attempt.Red g f) = IsEquation g × IsEquation f
 IsAttempt (attempt.Tail f) = IsEquation f
+IsAttempt (attempt.Cancel g q) = IsEquation g × IsCondition q
 IsAttempt (attempt.Split f) = IsEquation f
+IsAttempt (attempt.Factor f) = IsEquation f
 
 abbrev pub IsStep : ℕ → Step → Type 0
 IsStep n (step.Drop i) = IsEquation i
 IsStep n (step.Red g f m r) = IsEquation g × IsEquation f × IsMultiplier m × IsPolynomial n r
 IsStep n (step.Tail f r) = IsEquation f × IsPolynomial n r
+IsStep n (step.Cancel g q r) = IsEquation g × IsCondition q × IsPolynomial n r
 
 abbrev pub IsChainStep : ℕ → ChainStep → Type 0
 IsChainStep n c = IsConclusion c.k × IsEquation c.f × IsMultiplier c.m × IsPolynomial n c.r
@@ -55,8 +58,10 @@ IsStatus n (status.Unreduced k reason f) = IsConclusion k × IsEquation f
 
 abbrev pub IsOutcome : ℕ → Outcome → Type 0
 IsOutcome n (outcome.Split f initial) = IsEquation f × IsPolynomial n initial
+IsOutcome n (outcome.Factor f v) = IsEquation f × IsPolynomial n v
 IsOutcome n (outcome.Close i) = IsEquation i
 IsOutcome n (outcome.Clash i j) = IsEquation i × IsCondition j
+IsOutcome n (outcome.Void j f) = IsCondition j × IsEquation f
 IsOutcome n (outcome.System chain status) = All (IsChainStep n) chain × IsStatus n status
 IsOutcome n (outcome.Open reason what) = IsAttempt what
 

@@ -3,7 +3,7 @@ ghost use Rattle.proof_steps.specs.Work.{next};
 ghost use Rattle.proof_steps.specs.declared.piece.Node.{Node};
 ghost use Rattle.tree_laws.specs.Due.{IsRight};
 ghost use Rattle.tree_laws.specs.Costs.{FuelPays, ReasonsAreRight, TreesArePaid, WorkFollows};
-ghost use Rattle.tree_laws.specs.Growth.{TreesAreValid, TreesTellWhatIsLeft, TreesUnfold};
+ghost use Rattle.tree_laws.specs.Growth.{TreesAreValid, TreesStay, TreesTellWhatIsLeft, TreesUnfold};
 ghost use Rattle.tree_laws.specs.Ranges.{TreesAreWithinLimits};
 
 /// What is due at a node is right there: the rule that is tried is valid, the equation that closes the node is a number
@@ -50,4 +50,9 @@ pub fn trees_are_within_limits()
 /// at systems and open leaves: a text that leaves these out tells the tree whole.
 pub fn trees_tell_what_is_left()
     ensures { TreesTellWhatIsLeft }
+{}
+
+/// A valid tree, whoever made it, is valid by the rules of each later version, with the same fuel.
+pub fn trees_stay_valid()
+    ensures { TreesStay }
 {}

@@ -28,8 +28,10 @@ ending_of_status (status.Unreduced k reason f) = Stops reason
 
 abbrev pub ending_of : Outcome → Ending
 ending_of (outcome.Split f initial) = Parts initial
+ending_of (outcome.Factor f v) = Parts v
 ending_of (outcome.Close i) = Empty
 ending_of (outcome.Clash i j) = Empty
+ending_of (outcome.Void j f) = Empty
 ending_of (outcome.System chain s) = ending_of_status s
 ending_of (outcome.Open reason what) = Stops reason
 

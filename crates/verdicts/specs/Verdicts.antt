@@ -26,8 +26,10 @@ plus_part (true ∷ path) = true ∷ plus_part path
 -- The condition that the `+` child gains, and whether there are children.
 abbrev pub gain_of : Outcome → Option Polynomial
 gain_of (outcome.Split f initial) = Some initial
+gain_of (outcome.Factor f v) = Some v
 gain_of (outcome.Close i) = None
 gain_of (outcome.Clash i j) = None
+gain_of (outcome.Void j f) = None
 gain_of (outcome.System chain s) = None
 gain_of (outcome.Open reason what) = None
 
@@ -50,8 +52,10 @@ generic_leaf pieces = find (λ p. is_leaf p.outcome && not (has_minus p.path)) p
 -- A listed leaf at which some conclusion does not end in 0.
 abbrev pub is_unproved : Outcome → Bool
 is_unproved (outcome.Split f initial) = false
+is_unproved (outcome.Factor f v) = false
 is_unproved (outcome.Close i) = false
 is_unproved (outcome.Clash i j) = false
+is_unproved (outcome.Void j f) = false
 is_unproved (outcome.System chain s) = not (is_proved s)
 is_unproved (outcome.Open reason what) = true
 
@@ -81,7 +85,9 @@ verdict_by cs p (outcome.System chain s) = verdict_by_status cs p s
 verdict_by cs p (outcome.Open reason what) = verdict.Left p.path reason
 verdict_by cs p (outcome.Close i) = verdict.Degenerate p.path
 verdict_by cs p (outcome.Clash i j) = verdict.Degenerate p.path
+verdict_by cs p (outcome.Void j f) = verdict.Degenerate p.path
 verdict_by cs p (outcome.Split f initial) = verdict.Degenerate p.path
+verdict_by cs p (outcome.Factor f v) = verdict.Degenerate p.path
 
 abbrev pub verdict_of : List Piece → Verdict
 verdict_of pieces = elim (generic_leaf pieces) [ None ↦ verdict.Degenerate [] | Some p ↦ verdict_by (conditions pieces) p p.outcome ]

@@ -41,8 +41,10 @@ fn gain_of(outcome: &Outcome) -> Option<&OwnedPoly>
 {
     match outcome {
         Outcome::Split { f: _, initial } => Some(initial),
+        Outcome::Factor { f: _, v } => Some(v),
         Outcome::Close(_) => None,
         Outcome::Clash(_, _) => None,
+        Outcome::Void(_, _) => None,
         Outcome::System {
             chain: _,
             status: _,
@@ -62,8 +64,10 @@ fn is_unproved(outcome: &Outcome) -> bool
 {
     match outcome {
         Outcome::Split { f: _, initial: _ } => false,
+        Outcome::Factor { f: _, v: _ } => false,
         Outcome::Close(_) => false,
         Outcome::Clash(_, _) => false,
+        Outcome::Void(_, _) => false,
         Outcome::System { chain: _, status } => !matches!(status, LeafStatus::Proved),
         Outcome::Open { reason: _, what: _ } => true,
     }
@@ -191,6 +195,8 @@ pub fn judge(alloc: Global, tree: &Tree) -> Result<Verdict, AllocError>
         }),
         Outcome::Close(_) => Ok(Verdict::Degenerate(leaf.path)),
         Outcome::Clash(_, _) => Ok(Verdict::Degenerate(leaf.path)),
+        Outcome::Void(_, _) => Ok(Verdict::Degenerate(leaf.path)),
         Outcome::Split { f: _, initial: _ } => Ok(Verdict::Degenerate(leaf.path)),
+        Outcome::Factor { f: _, v: _ } => Ok(Verdict::Degenerate(leaf.path)),
     }
 }

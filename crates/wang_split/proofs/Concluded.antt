@@ -1,10 +1,10 @@
 -- The piece and the children of a node, by what is due there.
-use Rattle.std.proofs.Common.{◌≡◌, ◌-◌, ◌≤◌, ℕ, List, [], ◌∷◌, map, refl, sym, ◌∙◌, ap, subst}
+use Rattle.std.proofs.Common.{◌≡◌, ◌-◌, ◌≤◌, ℕ, List, [], ◌∷◌, map, refl, sym, ◌∙◌, ap, subst, false}
 use Rattle.std.specs.Prelude.{Option, Some, None}
 use Rattle.std.proofs.lemmas.List.{append-nil}
 use Rattle.poly_model.specs.Polynomial.{Polynomial}
 use Rattle.poly_model.specs.declared.limits.Reason.{Reason}
-use Rattle.proof_steps.specs.Rules.{made, reason_of, size_of}
+use Rattle.proof_steps.specs.Rules.{depth_limit, made, reason_for, reason_of, size_of}
 use Rattle.proof_steps.specs.Chain.{chain_of}
 use Rattle.proof_steps.specs.Work as work
 use Rattle.proof_steps.specs.Work.{Next}
@@ -16,6 +16,7 @@ use Rattle.proof_steps.specs.declared.piece.Piece.{Piece}
 use Rattle.proof_steps.specs.declared.piece.Outcome.{Outcome}
 use Rattle.proof_steps.specs.declared.piece.Outcome.TheVariants as outcome
 use Rattle.proof_steps.specs.declared.step.Attempt.{Attempt}
+use Rattle.proof_steps.specs.declared.step.Attempt.TheVariants as attempt
 use Rattle.proof_steps.specs.declared.step.Step.{Step}
 use Rattle.tree_laws.proofs.Due.{next-right}
 use Rattle.tree_laws.specs.Due.{IsRight}
@@ -26,6 +27,7 @@ use Rattle.proof_steps.specs.Classes.{HaveOwnClasses}
 use Rattle.proof_steps.proofs.Reducing.{own-classes}
 use Rattle.tree_laws.proofs.Unfold.{prefixed, more, expansion-is}
 use Rattle.wang_split.specs.Expanded.{Rests, nodes_of}
+use Rattle.wang_split.specs.Halts.{IsToldBy, gain_of, is_step}
 use Rattle.proof_steps.specs.declared.version.TheConstants.{VERSION}
 
 -- a piece that lists something, after steps
@@ -51,6 +53,10 @@ pub clashed : (cons : List Polynomial) (here : Node) (steps : List Step) (i j : 
     → p ≡ record { path = here.path; steps = steps; eqs = []; nes = []; outcome = outcome.Clash i j } → Rests cons here steps (p, None)
 clashed cons here steps i j p enough q e = rests cons here steps (outcome.Clash i j) [] [] [] p None (due-is cons here (work.Clashed i j) enough q) e refl
 
+pub voided : (cons : List Polynomial) (here : Node) (steps : List Step) (j f : ℕ) (p : Piece) → size_of here ≤ here.fuel → work.Voided j f ≡ work.next VERSION here
+    → p ≡ record { path = here.path; steps = steps; eqs = []; nes = []; outcome = outcome.Void j f } → Rests cons here steps (p, None)
+voided cons here steps j f p enough q e = rests cons here steps (outcome.Void j f) [] [] [] p None (due-is cons here (work.Voided j f) enough q) e refl
+
 pub solved : (cons : List Polynomial) (here : Node) (steps : List Step) (chain : List ChainStep) (status : LeafStatus) (p : Piece) → size_of here ≤ here.fuel → work.Solved ≡ work.next VERSION here
     → (chain, status) ≡ chain_of here.eqs cons (here.fuel - size_of here)
     → p ≡ record { path = here.path; steps = steps; eqs = here.eqs; nes = here.nes; outcome = outcome.System chain status } → Rests cons here steps (p, None)
@@ -70,6 +76,24 @@ pub parted : (cons : List Polynomial) (here : Node) (steps : List Step) (a : Att
     → recorded_as here a ≡ AsOutcome o → made VERSION here a ≡ plus ∷ minus ∷ [] → p ≡ record { path = here.path; steps = steps; eqs = []; nes = []; outcome = o } → Rests cons here steps (p, Some (plus, minus))
 parted cons here steps a o plus minus p enough q r t m e =
     rests cons here steps o [] [] (made VERSION here a) p (Some (plus, minus)) (tried cons here a None enough q r ∙ ap (expansion_recorded (more VERSION cons) VERSION here a) t) e (sym m)
+
+-- a rule that parts the node, as it is told
+pub told-recorded : (here : Node) (a : Attempt) (gain : Polynomial) (o : Outcome) → is_step a ≡ false → gain ≡ gain_of here a → IsToldBy a gain o → recorded_as here a ≡ AsOutcome o
+told-recorded here (attempt.Split f) gain o parts same told = λ i. AsOutcome ((ap (outcome.Split f) (sym same) ∙ sym told) i)
+told-recorded here (attempt.Factor f) gain o parts same told = λ i. AsOutcome ((ap (outcome.Factor f) (sym same) ∙ sym told) i)
+told-recorded here (attempt.Drop i) gain o parts same told = absurd told
+told-recorded here (attempt.Red g f) gain o parts same told = absurd told
+told-recorded here (attempt.Tail f) gain o parts same told = absurd told
+told-recorded here (attempt.Cancel g q) gain o parts same told = absurd told
+
+-- why such a rule is stopped, or that nothing stops it
+pub part-reason : (here : Node) (a : Attempt) (r : Option Reason) → is_step a ≡ false → reason_for (depth_limit here) (made VERSION here a) ≡ r → reason_of VERSION here a ≡ r
+part-reason here (attempt.Split f) r parts e = e
+part-reason here (attempt.Factor f) r parts e = e
+part-reason here (attempt.Drop i) r parts e = cc
+part-reason here (attempt.Red g f) r parts e = cc
+part-reason here (attempt.Tail f) r parts e = cc
+part-reason here (attempt.Cancel g q) r parts e = cc
 
 -- the piece lists the same where the node is the same
 pub listing-at : (n m : Node) (steps : List Step) (o : Outcome) (p : Piece) → n ≡ m → p ≡ record { path = n.path; steps = steps; eqs = n.eqs; nes = n.nes; outcome = o }

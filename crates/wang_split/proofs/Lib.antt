@@ -1,3 +1,4 @@
 pub mod Turns
 pub mod Concluded
 pub mod Recorded
+pub mod Least

@@ -4,9 +4,10 @@ use Rattle.std.specs.Prelude.{ℤ, ◌==◌}
 use Rattle.std.proofs.lemmas.Bool.{and_parts}
 use Rattle.std.proofs.lemmas.List.{length-map}
 use Rattle.poly_model.specs.Polynomial.{Polynomial}
+use Rattle.poly_model.specs.Powers.{without_variables}
 use Rattle.poly_model.specs.Reduction.{primitive_tail, reduction_of}
 use Rattle.proof_steps.specs.Numbers.{has, item}
-use Rattle.proof_steps.specs.Rules.{cut, is_valid, reduced}
+use Rattle.proof_steps.specs.Rules.{cancelled, cut, has_second, is_valid, reduced}
 use Rattle.proof_steps.specs.Trees.{AsStep, recorded_as}
 use Rattle.proof_steps.specs.declared.piece.Node.{Node}
 use Rattle.proof_steps.specs.declared.step.Attempt.TheVariants as attempt
@@ -26,6 +27,9 @@ red-recorded n g f m r h number same =
 pub tail-recorded : (n : Node) (f : ℕ) (r : Polynomial) → f - 1 < length n.eqs → r ≡ item (cut n f).eqs f → recorded_as n (attempt.Tail f) ≡ AsStep (step.Tail f r)
 tail-recorded n f r h same = λ i. AsStep (step.Tail f (sym (same ∙ put-item n.eqs f (primitive_tail (item n.eqs f)) h) i))
 
+pub cancel-recorded : (n : Node) (g q : ℕ) (r : Polynomial) → g - 1 < length n.eqs → r ≡ item (cancelled n g q).eqs g → recorded_as n (attempt.Cancel g q) ≡ AsStep (step.Cancel g q r)
+cancel-recorded n g q r h same = λ i. AsStep (step.Cancel g q (sym (same ∙ put-item n.eqs g (without_variables (item n.nes q) (item n.eqs g)) h) i))
+
 -- the places of rules that are valid
 pub record Placed (n : Node) (i : ℕ) : Type 0 where
   pub low : 1 ≤ i
@@ -44,3 +48,11 @@ tail-placed s b f v =
     let p = tried.tail-place VERSION s b f v in
     let l : length (map (held_at s) b.eqs.items) ≡ length b.eqs.items = length-map b.eqs.items (held_at s) in
     record { low = has-low n.eqs f (and_parts (has n.eqs f) _ v).0; below = omega (arith, p, l) }
+
+pub cancel-placed : (s : State) (b : Bench) (g q : ℕ) → is_valid VERSION (node_at s b) (attempt.Cancel g q) ≡ true → Placed (node_at s b) g
+cancel-placed s b g q v =
+    let n = node_at s b in
+    let p = (tried.cancel-places VERSION s b g q v).0 in
+    let l : length (map (held_at s) b.eqs.items) ≡ length b.eqs.items = length-map b.eqs.items (held_at s) in
+    let there = (and_parts (has n.eqs g) _ (and_parts (has_second VERSION) _ (and_parts (has_second VERSION && (has n.eqs g && has n.nes q)) _ v).0).1).0 in
+    record { low = has-low n.eqs g there; below = omega (arith, p, l) }

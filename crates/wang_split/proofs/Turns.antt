@@ -1,6 +1,7 @@
 -- The turns of the work on a node.
 use Rattle.std.proofs.Common.{◌≡◌, ℕ, zero, suc, ◌-◌, ◌<◌, ◌≤◌, List, [], ◌∷◌, ◌++◌, length, refl, sym, ◌∙◌, ap, subst, arith, true}
 use Rattle.std.proofs.lemmas.List.{length-set}
+use Rattle.poly_model.specs.Powers.{without_variables}
 use Rattle.poly_model.specs.Reduction.{primitive_tail, reduction_of}
 use Rattle.proof_steps.specs.Numbers.{item, without_place}
 use Rattle.proof_steps.specs.declared.step.Step.TheVariants as step
@@ -35,6 +36,7 @@ pub no-rule : (x : Next) → ((a : Attempt) → x ≡ due.Try a → ⊥) → Sta
 no-rule (due.Try a) h = absurd (h a refl)
 no-rule (due.Closed i) h = tt
 no-rule (due.Clashed i j) h = tt
+no-rule (due.Voided j f) h = tt
 no-rule due.Solved h = tt
 
 pub valid-there : (here there : Node) (a : Attempt) → there ≡ here → work.Try a ≡ work.next VERSION here → is_valid VERSION there a ≡ true
@@ -78,6 +80,7 @@ stepped-few : (n : Node) (x : Step) → IsFew n → IsFew (stepped n x)
 stepped-few n (step.Drop i) h = record { eqs = (let e = fewer n.eqs (i - 1) in let f = h.eqs in omega (arith, e, f)); nes = h.nes }
 stepped-few n (step.Red g f m r) h = record { eqs = (let e = length-set n.eqs (g - 1) (reduction_of (item n.eqs g) (item n.eqs f)).1 in let f = h.eqs in omega (arith, e, f)); nes = h.nes }
 stepped-few n (step.Tail f r) h = record { eqs = (let e = length-set n.eqs (f - 1) (primitive_tail (item n.eqs f)) in let f = h.eqs in omega (arith, e, f)); nes = h.nes }
+stepped-few n (step.Cancel g q r) h = record { eqs = (let e = length-set n.eqs (g - 1) (without_variables (item n.nes q) (item n.eqs g)) in let f = h.eqs in omega (arith, e, f)); nes = h.nes }
 
 pub few-after : (here there : Node) (base u : State) (c : Bench) (a : Attempt) (x : Taken) → there ≡ here → IsFew here → Takes base there a x u c → IsFew (node_at u c)
 few-after here there base u c a (taken.Stepped x) e h t = subst IsFew (sym t.2.node) (stepped-few there x (subst IsFew (sym e) h))

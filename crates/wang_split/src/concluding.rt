@@ -1,11 +1,15 @@
 // The piece and the children of a node whose work halts.
-ghost use Rattle.std.specs.Prelude.{◌≡◌, ◌≤◌, List, [], false, map, IfOk, None, length};
+ghost use Rattle.std.specs.Prelude.{◌≡◌, ◌≤◌, List, [], true, false, map, IfOk, None, length};
 ghost use Rattle.poly_model.specs.declared.limits.TheConstants.{EXPAND_UNITS, MOST_CONCLUSIONS};
+ghost use Rattle.proof_steps.specs.Numbers.{item};
+ghost use Rattle.proof_steps.specs.Rules.{is_valid, least_variable, made};
 ghost use Rattle.proof_steps.specs.Work as order;
+ghost use Rattle.proof_steps.specs.declared.step.Attempt.TheVariants.{Factor};
+ghost use Rattle.workbench.specs.Splitting.{Parts};
 ghost use Rattle.term_store.specs.Changes.{Keeps};
 ghost use Rattle.workbench.specs.Standing.{AreFound, AreHeld, Stands, beneath, node_at, poly_of};
 ghost use Rattle.poly_model.specs.Polynomial.{Polynomial};
-ghost use Rattle.wang_split.specs.Halts.{HaltedAt, IsFew, Stays, is_step};
+ghost use Rattle.wang_split.specs.Halts.{HaltedAt, IsFew, IsToldBy, Stays, gain_of, is_step};
 ghost use Rattle.workbench.specs.Dues.{next_of};
 ghost use Rattle.wang_split.specs.Expanded.{Rests};
 ghost use Rattle.proof_steps.specs.declared.version.TheConstants.{VERSION};
@@ -17,7 +21,9 @@ use proof_steps::{Attempt, Node, Outcome, Path, Piece, Step, VERSION};
 use std::alloc::{AllocError, Global};
 use term_store::TermStore;
 use triangular::reduce_conclusions;
-use workbench::{Bench, Held, Next, Parting, copy_conditions, copy_equations, split};
+use workbench::{
+    Bench, Held, Next, Parting, copy_conditions, copy_equations, factor, split, variable_of,
+};
 
 /// A piece that lists nothing.
 fn bare(alloc: Global, path: Path, steps: Vec<Step>, outcome: Outcome) -> Piece
@@ -100,7 +106,66 @@ fn solved<S: TermStore>(
     listed(alloc, s, bench, steps, Outcome::System { chain, status })
 }
 
-/// The piece and the children of a node that is split, or that is left open since the split is
+/// Parts a node on the least variable that divides an equation.
+fn factored<S: TermStore>(
+    alloc: Global,
+    s: &mut S,
+    bench: &Bench,
+    f: u16,
+) -> Result<Parting, AllocError>
+    requires stands { Stands (beneath (S.state s.old) bench.now) (S.state s.old) [] bench.now }
+    requires valid { is_valid VERSION (node_at (S.state s.old) bench.now) (Factor f) ≡ true }
+    requires room { EXPAND_UNITS ≤ (beneath (S.state s.old) bench.now).spare }
+    ensures kept { Keeps (S.state s.old) (S.state s.new) }
+    ensures parts { IfOk result (λ p. Parts (node_at (S.state s.old) bench.now)
+        (made VERSION (node_at (S.state s.old) bench.now) (Factor f))
+        (least_variable (item (node_at (S.state s.old) bench.now).eqs f)) p) }
+{
+    let x = bench.eqs[f as usize - 1].factor;
+    let v = variable_of(alloc, x)?;
+    factor(VERSION, alloc, s, bench, f, &v)
+}
+
+/// Parts a node by the rule that is due.
+fn part<S: TermStore>(
+    alloc: Global,
+    s: &mut S,
+    bench: &Bench,
+    attempt: Attempt,
+) -> Result<Parting, AllocError>
+    requires stands { Stands (beneath (S.state s.old) bench.now) (S.state s.old) [] bench.now }
+    requires valid { is_valid VERSION (node_at (S.state s.old) bench.now) attempt ≡ true }
+    requires parts { is_step attempt ≡ false }
+    requires room { EXPAND_UNITS ≤ (beneath (S.state s.old) bench.now).spare }
+    ensures kept { Keeps (S.state s.old) (S.state s.new) }
+    ensures parts { IfOk result (λ p. Parts (node_at (S.state s.old) bench.now)
+        (made VERSION (node_at (S.state s.old) bench.now) attempt)
+        (gain_of (node_at (S.state s.old) bench.now) attempt) p) }
+{
+    match attempt {
+        Attempt::Split(f) => split(VERSION, alloc, s, bench, f),
+        Attempt::Factor(f) => factored(alloc, s, bench, f),
+        Attempt::Drop(_) | Attempt::Red(_, _) | Attempt::Tail(_) | Attempt::Cancel(_, _) => {
+            unreachable!()
+        }
+    }
+}
+
+/// How a parting by the rule is told, with the condition that the first child gains.
+fn parting_outcome(attempt: Attempt, gain: OwnedPoly) -> Outcome
+    requires { is_step attempt ≡ false }
+    ensures { IsToldBy attempt gain result }
+{
+    match attempt {
+        Attempt::Split(f) => Outcome::Split { f, initial: gain },
+        Attempt::Factor(f) => Outcome::Factor { f, v: gain },
+        Attempt::Drop(_) | Attempt::Red(_, _) | Attempt::Tail(_) | Attempt::Cancel(_, _) => {
+            unreachable!()
+        }
+    }
+}
+
+/// The piece and the children of a node that is split or parted on a factor, or that is left open since that is
 /// stopped.
 fn parted<S: TermStore>(
     alloc: Global,
@@ -117,16 +182,9 @@ fn parted<S: TermStore>(
     ensures rests { IfOk result (λ e. (cons : List Polynomial) →
         Rests cons (node_at (S.state s.old) bench.now) steps.items e) }
 {
-    let Attempt::Split(f) = attempt else {
-        unreachable!()
-    };
-    match split(VERSION, alloc, s, bench, f)? {
-        Parting::Parted {
-            initial,
-            plus,
-            minus,
-        } => {
-            let outcome = Outcome::Split { f, initial };
+    match part(alloc, s, bench, attempt)? {
+        Parting::Parted { gain, plus, minus } => {
+            let outcome = parting_outcome(attempt, gain);
             Ok((bare(alloc, bench.path, steps, outcome), Some((plus, minus))))
         }
         Parting::Stopped(reason) => {
@@ -159,6 +217,7 @@ fn ended<S: TermStore>(
     match next {
         Next::Closed(i) => Ok((bare(alloc, bench.path, steps, Outcome::Close(i)), None)),
         Next::Clashed(i, j) => Ok((bare(alloc, bench.path, steps, Outcome::Clash(i, j)), None)),
+        Next::Voided(j, f) => Ok((bare(alloc, bench.path, steps, Outcome::Void(j, f)), None)),
         Next::Solved => Ok((solved(alloc, s, bench, steps, cons)?, None)),
         Next::Try(attempt) => parted(alloc, s, bench, steps, attempt),
     }

@@ -3,7 +3,7 @@ ghost use Rattle.std.specs.Prelude.{◌≡◌, ◌≤◌, [], true, IfOk, OnOk};
 ghost use Rattle.poly_model.specs.declared.limits.TheConstants.{EXPAND_UNITS};
 ghost use Rattle.proof_steps.specs.Rules.{is_valid};
 ghost use Rattle.workbench.specs.Standing.{Stands, beneath, node_at};
-ghost use Rattle.proof_steps.specs.declared.step.Attempt.TheVariants.{Red, Tail};
+ghost use Rattle.proof_steps.specs.declared.step.Attempt.TheVariants.{Cancel, Red, Tail};
 ghost use Rattle.wang_split.specs.Halts.{Halted, IsFew, is_step};
 ghost use Rattle.wang_split.specs.Taking.{Took};
 ghost use Rattle.proof_steps.specs.declared.version.TheConstants.{VERSION};
@@ -12,7 +12,7 @@ use crate::taken::Taken;
 use proof_steps::{Attempt, Reason, Step, VERSION};
 use std::alloc::{AllocError, Global};
 use term_store::TermStore;
-use workbench::{Bench, Next, copy_equation, cut, drop, due, reduce};
+use workbench::{Bench, Next, cancel, copy_equation, cut, drop, due, reduce};
 
 /// Where the work on a node halts: at what is due and is no step, or at a step that is stopped.
 #[derive(Clone, Copy, Debug)]
@@ -26,8 +26,8 @@ fn is_step(attempt: Attempt) -> bool
     ensures { result ≡ is_step attempt }
 {
     match attempt {
-        Attempt::Drop(_) | Attempt::Red(_, _) | Attempt::Tail(_) => true,
-        Attempt::Split(_) => false,
+        Attempt::Drop(_) | Attempt::Red(_, _) | Attempt::Tail(_) | Attempt::Cancel(_, _) => true,
+        Attempt::Split(_) | Attempt::Factor(_) => false,
     }
 }
 
@@ -76,6 +76,29 @@ fn take_cut<S: TermStore>(
     }
 }
 
+/// Tries to divide an equation by the variables of a condition.
+fn take_cancel<S: TermStore>(
+    alloc: Global,
+    s: &mut S,
+    bench: &mut Bench,
+    g: u16,
+    q: u16,
+) -> Result<Taken, AllocError>
+    requires stands { Stands (beneath (S.state s.old) bench.old) (S.state s.old) [] bench.old }
+    requires valid { is_valid VERSION (node_at (S.state s.old) bench.old) (Cancel g q) ≡ true }
+    requires room { EXPAND_UNITS ≤ (beneath (S.state s.old) bench.old).spare }
+    ensures { Took (beneath (S.state s.old) bench.old) (node_at (S.state s.old) bench.old)
+        (Cancel g q) result (S.state s.new) bench.new }
+{
+    match cancel(VERSION, s, bench, g, q) {
+        Ok(()) => {
+            let r = copy_equation(alloc, s, bench, g)?;
+            Ok(Taken::Stepped(Step::Cancel { g, q, r }))
+        }
+        Err(why) => Ok(Taken::Stopped(why)),
+    }
+}
+
 /// Tries a rule that goes on at the node that it leaves.
 fn take<S: TermStore>(
     alloc: Global,
@@ -97,7 +120,8 @@ fn take<S: TermStore>(
         }
         Attempt::Red(g, f) => take_reduction(alloc, s, bench, g, f),
         Attempt::Tail(f) => take_cut(alloc, s, bench, f),
-        Attempt::Split(_) => unreachable!(),
+        Attempt::Cancel(g, q) => take_cancel(alloc, s, bench, g, q),
+        Attempt::Split(_) | Attempt::Factor(_) => unreachable!(),
     }
 }
 

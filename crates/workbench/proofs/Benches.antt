@@ -237,6 +237,14 @@ live-place s (y ∷ hs) ks (suc i) x live h at = live-place s hs ks i x live.1 (
 pub conditions-held : (base s : State) (ks : List ℕ) (b : Bench) → Stands base s ks b → AreHeld s b.nes.items
 conditions-held base s ks b st = record { live = owning.live-back s (map held_slot b.eqs.items) _ (bench-live base s ks b st); standard = st.standard }
 
+held-poly : (s : State) (ps : List Poly) (i : ℕ) (p : Poly) → AreHeld s ps → i < length ps → p ≡ get_or ps i p → IsPoly s p
+held-poly s [] i p h low at = absurd (omega (arith, low))
+held-poly s (q ∷ ps) zero p h low at = subst (IsPoly s) (sym at) (record { live = h.live.0; standard = h.standard.0 })
+held-poly s (q ∷ ps) (suc i) p h low at = held-poly s ps i p (record { live = h.live.1; standard = h.standard.1 }) (omega (arith, low)) at
+
+pub condition-poly : (base s : State) (ks : List ℕ) (b : Bench) (i : ℕ) (p : Poly) → Stands base s ks b → i < length b.nes.items → p ≡ get_or b.nes.items i p → IsPoly s p
+condition-poly base s ks b i p st low at = held-poly s b.nes.items i p (conditions-held base s ks b st) low at
+
 pub equation-at : (s : State) (hs : List Held) (i : ℕ) (x : Held) → i < length hs → x ≡ get_or hs i x → held_at s x ≡ get_or (map (held_at s) hs) i []
 equation-at s [] i x h at = absurd (omega arith)
 equation-at s (y ∷ hs) zero x h at = ap (held_at s) at

@@ -1,5 +1,5 @@
 -- The rule that is due, by the searches.
-use Rattle.std.proofs.Common.{◌≡◌, ◌≢◌, ℕ, ◌-◌, ◌<◌, zero, suc, List, [], ◌∷◌, length, map, get_or, refl, sym, ◌∙◌, ap, arith, Bool}
+use Rattle.std.proofs.Common.{◌≡◌, ◌≢◌, ℕ, ◌-◌, ◌<◌, zero, suc, List, [], ◌∷◌, length, map, get_or, refl, sym, ◌∙◌, ap, subst, arith, Bool}
 use Rattle.std.specs.Prelude.{Option, Some, None, unwrap_or, option_map, if◌then◌else◌, nat_lt}
 use Rattle.std.proofs.lemmas.Bool.{and_parts, ltb-true, leb-true}
 use Rattle.std.proofs.lemmas.List.{length-map}
@@ -8,7 +8,7 @@ use Rattle.term_store.specs.States.{State}
 use Rattle.proof_steps.specs.Numbers.{item}
 use Rattle.poly_model.specs.Reduction.{same, has_polynomial, primitive_initial}
 use Rattle.proof_steps.specs.Rules.{has_known_initial}
-use Rattle.proof_steps.specs.Work.{Next, Try, Closed, Clashed, Solved, unsettled_class, least, other, work_on, class_due, number_in, next}
+use Rattle.proof_steps.specs.Work.{Next, Try, Closed, Clashed, Solved, unsettled_class, least, other, work_on, void_due, number_in, next}
 use Rattle.proof_steps.specs.declared.piece.Node.{Node}
 use Rattle.proof_steps.specs.declared.step.Attempt.{Attempt}
 use Rattle.proof_steps.specs.declared.step.Attempt.TheVariants as attempt
@@ -16,7 +16,8 @@ use Rattle.tree_laws.proofs.Due.{chosen}
 use Rattle.workbench.specs.declared.bench.Bench.{Bench}
 use Rattle.workbench.specs.declared.bench.Held.{Held}
 use Rattle.workbench.specs.Owned.{AllLive}
-use Rattle.workbench.specs.Standing.{Stands, AllTell, AreFound, held_at, held_slot, node_at}
+use Rattle.workbench.specs.Dues.{later_due}
+use Rattle.workbench.specs.Standing.{Stands, AllTell, AreFound, Tells, held_at, held_slot, node_at}
 use Rattle.workbench.specs.Searches as searches
 use Rattle.workbench.proofs.Owning as owning
 use Rattle.workbench.proofs.Benches as benches
@@ -32,51 +33,122 @@ found-all base s ks b st = all s b.eqs.items _ (owning.live-front s (map held_sl
     all s [] N live t = tt
     all s (h ∷ hs) N live t = (record { live = live.0; standard = t.0.standard }, all s hs N live.1 t.1)
 
--- what is due by the places that the searches find
-abbrev pub by_places : Node → (d c q : ℕ) → Next
-by_places n d c q =
-    unwrap_or (option_map (λ i. Try (attempt.Drop i)) (some_place d))
-    (unwrap_or (option_map Closed (some_place c))
-    (unwrap_or (option_map (λ i. Clashed i (number_in n.nes (item n.eqs i))) (some_place q)) (unwrap_or (class_due n) Solved)))
+-- ---- what is due by the places that the searches find
+place-here : (X : ℕ → Next) (d : ℕ) (rest : Next) → d ≢ 0 → X d ≡ unwrap_or (option_map X (some_place d)) rest
+place-here X zero rest h = absurd (h refl)
+place-here X (suc d) rest h = refl
 
-pub next-is : (s : State) (b : Bench) → AllTell (node_at s b).nes b.eqs.items (node_at s b).eqs
-    → next VERSION (node_at s b) ≡ by_places (node_at s b) (searches.dropped_in (held_at s) b.eqs.items) (searches.number_in b.eqs.items) (searches.clashed_in (held_at s) (node_at s b).nes b.eqs.items)
-next-is s b t =
-    let n = node_at s b in
-    λ i. unwrap_or (option_map (λ i. Try (attempt.Drop i)) (tied.drop-tied (held_at s) n b.eqs.items refl t i))
-    (unwrap_or (option_map Closed (tied.number-tied (held_at s) n.nes b.eqs.items t i))
-    (unwrap_or (option_map (λ i. Clashed i (number_in n.nes (item n.eqs i))) (tied.clash-tied (held_at s) n.nes b.eqs.items t i)) (unwrap_or (class_due n) Solved)))
+place-none : (X : ℕ → Next) (d : ℕ) (rest : Next) → d ≡ 0 → rest ≡ unwrap_or (option_map X (some_place d)) rest
+place-none X zero rest e = refl
+place-none X (suc d) rest e = absurd (omega (arith, e))
 
-pub by-drop : (n : Node) (d c q : ℕ) → d ≢ 0 → Try (attempt.Drop d) ≡ by_places n d c q
-by-drop n zero c q h = absurd (h refl)
-by-drop n (suc d) c q h = refl
+abbrev dropping : ℕ → Next
+dropping i = Try (attempt.Drop i)
 
-pub by-close : (n : Node) (d c q : ℕ) → d ≡ 0 → c ≢ 0 → Closed c ≡ by_places n d c q
-by-close n (suc d) c q z h = absurd (omega (arith, z))
-by-close n zero zero q z h = absurd (h refl)
-by-close n zero (suc c) q z h = refl
+abbrev clashing : Node → ℕ → Next
+clashing n i = Clashed i (number_in n.nes (item n.eqs i))
 
-pub by-clash : (n : Node) (d c q : ℕ) → d ≡ 0 → c ≡ 0 → q ≢ 0 → Clashed q (number_in n.nes (item n.eqs q)) ≡ by_places n d c q
-by-clash n (suc d) c q z y h = absurd (omega (arith, z))
-by-clash n zero (suc c) q z y h = absurd (omega (arith, y))
-by-clash n zero zero zero z y h = absurd (h refl)
-by-clash n zero zero (suc q) z y h = refl
+abbrev cancelling : Node → ℕ → Next
+cancelling n g = Try (attempt.Cancel g (tied.cancels_by n g))
 
-pub by-class : (n : Node) (d c q : ℕ) → d ≡ 0 → c ≡ 0 → q ≡ 0 → unwrap_or (class_due n) Solved ≡ by_places n d c q
-by-class n (suc d) c q z y x = absurd (omega (arith, z))
-by-class n zero (suc c) q z y x = absurd (omega (arith, y))
-by-class n zero zero (suc q) z y x = absurd (omega (arith, x))
-by-class n zero zero zero z y x = refl
+abbrev factoring : ℕ → Next
+factoring f = Try (attempt.Factor f)
 
+-- the places that the searches find, and what is due behind each
+module _ (s : State) (b : Bench) (t : AllTell (node_at s b).nes b.eqs.items (node_at s b).eqs) where
+  abbrev n : Node
+  n = node_at s b
+
+  abbrev pub drop_place : ℕ
+  drop_place = searches.dropped_in (held_at s) b.eqs.items
+
+  abbrev pub close_place : ℕ
+  close_place = searches.number_in b.eqs.items
+
+  abbrev pub clash_place : ℕ
+  clash_place = searches.clashed_in (held_at s) n.nes b.eqs.items
+
+  abbrev pub cancel_place : ℕ
+  cancel_place = searches.cancelled_in b.eqs.items
+
+  abbrev pub factor_place : ℕ
+  factor_place = searches.factored_in b.eqs.items
+
+  abbrev after_cancel : Next
+  after_cancel = unwrap_or (option_map factoring (some_place factor_place)) (later_due n)
+
+  abbrev after_clash : Next
+  after_clash = unwrap_or (option_map (cancelling n) (some_place cancel_place)) after_cancel
+
+  abbrev after_close : Next
+  after_close = unwrap_or (option_map (clashing n) (some_place clash_place)) after_clash
+
+  abbrev after_drop : Next
+  after_drop = unwrap_or (option_map Closed (some_place close_place)) after_close
+
+  next-is : next VERSION n ≡ unwrap_or (option_map dropping (some_place drop_place)) after_drop
+  next-is =
+      λ i. unwrap_or (option_map dropping (tied.drop-tied (held_at s) n b.eqs.items refl t i))
+      (unwrap_or (option_map Closed (tied.number-tied (held_at s) n.nes b.eqs.items t i))
+      (unwrap_or (option_map (clashing n) (tied.clash-tied (held_at s) n.nes b.eqs.items t i))
+      (unwrap_or (option_map (cancelling n) (tied.cancel-tied (held_at s) n b.eqs.items refl t i))
+      (unwrap_or (option_map factoring (tied.factor-tied (held_at s) n b.eqs.items refl t i)) (later_due n)))))
+
+  past-drop : drop_place ≡ 0 → after_drop ≡ next VERSION n
+  past-drop d = place-none dropping drop_place after_drop d ∙ sym next-is
+
+  past-close : drop_place ≡ 0 → close_place ≡ 0 → after_close ≡ next VERSION n
+  past-close d c = place-none Closed close_place after_close c ∙ past-drop d
+
+  past-clash : drop_place ≡ 0 → close_place ≡ 0 → clash_place ≡ 0 → after_clash ≡ next VERSION n
+  past-clash d c q = place-none (clashing n) clash_place after_clash q ∙ past-close d c
+
+  past-cancel : drop_place ≡ 0 → close_place ≡ 0 → clash_place ≡ 0 → cancel_place ≡ 0 → after_cancel ≡ next VERSION n
+  past-cancel d c q a = place-none (cancelling n) cancel_place after_cancel a ∙ past-clash d c q
+
+  -- the same for what the searches answer
+  pub due-drop : (i : ℕ) → i ≡ drop_place → i ≢ 0 → Try (attempt.Drop i) ≡ next VERSION n
+  due-drop i is some = ap dropping is ∙ place-here dropping drop_place after_drop (λ z. some (is ∙ z)) ∙ sym next-is
+
+  pub due-close : (i : ℕ) → drop_place ≡ 0 → i ≡ close_place → i ≢ 0 → Closed i ≡ next VERSION n
+  due-close i d is some = ap Closed is ∙ place-here Closed close_place after_close (λ z. some (is ∙ z)) ∙ past-drop d
+
+  pub due-clash : (i j : ℕ) (h : Held) → drop_place ≡ 0 → close_place ≡ 0 → i ≡ clash_place → i ≢ 0 → i - 1 < length b.eqs.items → h ≡ get_or b.eqs.items (i - 1) h
+      → j ≡ searches.place_at (λ r. same r (held_at s h)) 1 n.nes → Clashed i j ≡ next VERSION n
+  due-clash i j h d c is some below at ji =
+      let number : j ≡ number_in n.nes (item n.eqs i) =
+      ji ∙ sym (tied.among-number n.nes (held_at s h)) ∙ ap (number_in n.nes) (benches.equation-at s b.eqs.items (i - 1) h below at)
+      in
+      ap (Clashed i) number ∙ ap (clashing n) is ∙ place-here (clashing n) clash_place after_clash (λ z. some (is ∙ z)) ∙ past-close d c
+
+  pub due-cancel : (i q : ℕ) (h : Held) → drop_place ≡ 0 → close_place ≡ 0 → clash_place ≡ 0 → i ≡ cancel_place → i ≢ 0 → i - 1 < length b.eqs.items
+      → h ≡ get_or b.eqs.items (i - 1) h → q ≡ h.cancels → Try (attempt.Cancel i q) ≡ next VERSION n
+  due-cancel i q h d c k is some below at qi =
+      let tells : Tells n.nes h (item n.eqs i) =
+      subst (λ y. Tells n.nes y (item n.eqs i)) (sym at) (benches.tell-at n.nes b.eqs.items n.eqs (i - 1) h below t) in
+      let kept = tied.cancel-kept (held_at s) n b.eqs.items i h refl (omega (arith, some)) (omega (arith, below, some)) tells in
+      ap (λ r. Try (attempt.Cancel i r)) (qi ∙ sym kept) ∙ ap (cancelling n) is ∙ place-here (cancelling n) cancel_place after_cancel (λ z. some (is ∙ z))
+      ∙ past-clash d c k
+
+  pub due-factor : (i : ℕ) → drop_place ≡ 0 → close_place ≡ 0 → clash_place ≡ 0 → cancel_place ≡ 0 → i ≡ factor_place → i ≢ 0
+      → Try (attempt.Factor i) ≡ next VERSION n
+  due-factor i d c q a is some = ap factoring is ∙ place-here factoring factor_place (later_due n) (λ z. some (is ∙ z)) ∙ past-cancel d c q a
+
+  pub due-later : drop_place ≡ 0 → close_place ≡ 0 → clash_place ≡ 0 → cancel_place ≡ 0 → factor_place ≡ 0 → later_due n ≡ next VERSION n
+  due-later d c q a f = place-none factoring factor_place (later_due n) f ∙ past-cancel d c q a
+
+-- ---- the class that is worked on, and the condition that is void
 class-by : Node → ℕ → Option Next
 class-by n x = elim x [ zero ↦ None | suc x ↦ Some (Try (work_on n (suc x))) ]
 
-pub class-none : (n : Node) → unsettled_class n ≡ 0 → Solved ≡ unwrap_or (class_due n) Solved
-class-none n e = ap (λ x. unwrap_or (elim x as (λ _. Option Next) [ zero ↦ None | suc y ↦ Some (Try (work_on n (suc y))) ]) Solved) (sym e)
+pub class-none : (n : Node) → unsettled_class n ≡ 0 → unwrap_or (void_due VERSION n) Solved ≡ later_due n
+class-none n e =
+    ap (λ x. unwrap_or (elim x as (λ _. Option Next) [ zero ↦ None | suc y ↦ Some (Try (work_on n (suc y))) ]) (unwrap_or (void_due VERSION n) Solved)) (sym e)
 
-pub class-some : (n : Node) (x : ℕ) → x ≢ 0 → x ≡ unsettled_class n → Try (work_on n x) ≡ unwrap_or (class_due n) Solved
+pub class-some : (n : Node) (x : ℕ) → x ≢ 0 → x ≡ unsettled_class n → Try (work_on n x) ≡ later_due n
 class-some n zero h e = absurd (h refl)
-class-some n (suc x) h e = ap (λ x. unwrap_or (elim x as (λ _. Option Next) [ zero ↦ None | suc y ↦ Some (Try (work_on n (suc y))) ]) Solved) e
+class-some n (suc x) h e =
+    ap (λ x. unwrap_or (elim x as (λ _. Option Next) [ zero ↦ None | suc y ↦ Some (Try (work_on n (suc y))) ]) (unwrap_or (void_due VERSION n) Solved)) e
 
 -- the least equation of the class is there
 pub least-place : (s : State) (b : Bench) (x : ℕ) → AllTell (node_at s b).nes b.eqs.items (node_at s b).eqs → x ≢ 0 → x ≡ unsettled_class (node_at s b)
@@ -108,27 +180,3 @@ work-is s b x f h t is below at =
 pub found-within : (s t : State) (hs : List Held) → owning.Within s t → AreFound s hs → AreFound t hs
 found-within s t [] w h = tt
 found-within s t (x ∷ hs) w h = (benches.poly-within s t x.poly w h.0, found-within s t hs w h.1)
-
--- ---- the same for what the searches answer
-pub due-drop : (s : State) (b : Bench) (d : ℕ) → AllTell (node_at s b).nes b.eqs.items (node_at s b).eqs → d ≡ searches.dropped_in (held_at s) b.eqs.items → d ≢ 0 → Try (attempt.Drop d) ≡ next VERSION (node_at s b)
-due-drop s b d t is some =
-    ap (λ k. Try (attempt.Drop k)) is ∙ by-drop (node_at s b) (searches.dropped_in (held_at s) b.eqs.items) (searches.number_in b.eqs.items) (searches.clashed_in (held_at s) (node_at s b).nes b.eqs.items) (λ z. some (is ∙ z)) ∙ sym (next-is s b t)
-
-pub due-close : (s : State) (b : Bench) (d c : ℕ) → AllTell (node_at s b).nes b.eqs.items (node_at s b).eqs → d ≡ searches.dropped_in (held_at s) b.eqs.items → d ≡ 0 → c ≡ searches.number_in b.eqs.items → c ≢ 0
-    → Closed c ≡ next VERSION (node_at s b)
-due-close s b d c t di dz is some =
-    ap Closed is ∙ by-close (node_at s b) (searches.dropped_in (held_at s) b.eqs.items) (searches.number_in b.eqs.items) (searches.clashed_in (held_at s) (node_at s b).nes b.eqs.items) (sym di ∙ dz) (λ z. some (is ∙ z)) ∙ sym (next-is s b t)
-
-pub due-clash : (s : State) (b : Bench) (d c q j : ℕ) (h : Held) → AllTell (node_at s b).nes b.eqs.items (node_at s b).eqs → d ≡ searches.dropped_in (held_at s) b.eqs.items → d ≡ 0 → c ≡ searches.number_in b.eqs.items → c ≡ 0
-    → q ≡ searches.clashed_in (held_at s) (node_at s b).nes b.eqs.items → q ≢ 0 → q - 1 < length b.eqs.items → h ≡ get_or b.eqs.items (q - 1) h → j ≡ searches.place_at (λ r. same r (held_at s h)) 1 (node_at s b).nes
-    → Clashed q j ≡ next VERSION (node_at s b)
-due-clash s b d c q j h t di dz ci cz qi some below at ji =
-    let n = node_at s b in
-    let number : j ≡ number_in n.nes (item n.eqs q) = ji ∙ sym (tied.among-number n.nes (held_at s h)) ∙ ap (number_in n.nes) (benches.equation-at s b.eqs.items (q - 1) h below at) in
-    ap (Clashed q) number ∙ ap (λ k. Clashed k (number_in n.nes (item n.eqs k))) qi
-    ∙ by-clash n (searches.dropped_in (held_at s) b.eqs.items) (searches.number_in b.eqs.items) (searches.clashed_in (held_at s) n.nes b.eqs.items) (sym di ∙ dz) (sym ci ∙ cz) (λ z. some (qi ∙ z)) ∙ sym (next-is s b t)
-
-pub due-class : (s : State) (b : Bench) (d c q : ℕ) → AllTell (node_at s b).nes b.eqs.items (node_at s b).eqs → d ≡ searches.dropped_in (held_at s) b.eqs.items → d ≡ 0 → c ≡ searches.number_in b.eqs.items → c ≡ 0
-    → q ≡ searches.clashed_in (held_at s) (node_at s b).nes b.eqs.items → q ≡ 0 → unwrap_or (class_due (node_at s b)) Solved ≡ next VERSION (node_at s b)
-due-class s b d c q t di dz ci cz qi qz =
-    by-class (node_at s b) (searches.dropped_in (held_at s) b.eqs.items) (searches.number_in b.eqs.items) (searches.clashed_in (held_at s) (node_at s b).nes b.eqs.items) (sym di ∙ dz) (sym ci ∙ cz) (sym qi ∙ qz) ∙ sym (next-is s b t)

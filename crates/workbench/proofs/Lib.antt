@@ -2,6 +2,7 @@ pub mod Owning
 pub mod Tests
 pub mod Benches
 pub mod Tied
+pub mod Known
 pub mod Choice
 pub mod Tried
 pub mod Sharing
@@ -9,3 +10,4 @@ pub mod Opened
 pub mod Copying
 pub mod Validity
 pub mod Putting
+pub mod Voided

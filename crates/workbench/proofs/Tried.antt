@@ -8,13 +8,16 @@ use Rattle.term_store.specs.States.{State}
 use Rattle.term_store.specs.Changes.{Keeps}
 use Rattle.poly_model.specs.declared.limits.Limit.{Limit}
 use Rattle.polynomials.specs.declared.poly.Poly.{Poly}
-use Rattle.polynomials.specs.Held.{Gives}
+use Rattle.polynomials.specs.Held.{Gives, polynomial_at}
 use Rattle.proof_steps.specs.Numbers.{item, has}
-use Rattle.poly_model.specs.Reduction.{primitive_initial, primitive_tail, reduction_of, class_of, is_constant, reaches}
+use Rattle.poly_model.specs.Reduction.{main_place, primitive_tail, reduction_of, same, class_of, is_constant, reaches}
 use Rattle.poly_model.specs.Bounded.{bounded_reduction}
-use Rattle.proof_steps.specs.Rules.{has_known_initial, size_of, dropped, cut, reduction_limit, reduced, made, is_short, is_valid, reason_of}
+use Rattle.poly_model.specs.Equality.{same-is}
+use Rattle.poly_model.proofs.Powers.{factor-class}
+use Rattle.poly_model.specs.Powers.{has_factor, is_divided, is_factor, one_monomial, shares_variable, variable_in, without_variables}
+use Rattle.proof_steps.specs.Rules.{has_known_initial, has_second, size_of, dropped, cancelled, cut, depth_limit, reduction_limit, reduced, made, is_short, is_valid, reason_for, reason_of}
 use Rattle.proof_steps.specs.Reasons.{limit_met}
-use Rattle.proof_steps.specs.Trees.{AsOutcome}
+use Rattle.proof_steps.specs.Trees.{may_factor}
 use Rattle.poly_model.specs.Reasons as limits
 use Rattle.proof_steps.specs.declared.piece.Node.{Node}
 use Rattle.proof_steps.specs.declared.step.Attempt.TheVariants as attempt
@@ -29,13 +32,12 @@ use Rattle.poly_model.proofs.Reductions.{bounded_reduction-is}
 use Rattle.poly_model.proofs.Within.{within-of}
 use Rattle.poly_model.specs.Standard.{is_standard}
 use Rattle.std.proofs.lemmas.List.{length-map}
-use Rattle.workbench.specs.Taking.{Cuts, Leaves, Reduces}
+use Rattle.workbench.specs.Taking.{Cancels, Cuts, Leaves, Reduces}
 use Rattle.poly_model.specs.declared.limits.TheConstants.{MOST_LETTERS, MOST_VARIABLES}
 use Rattle.workbench.specs.declared.bench.Bench.{Bench}
 use Rattle.workbench.specs.Splitting.{PartedBy, Parts}
 use Rattle.workbench.specs.declared.splitting.Parting.{Parting}
 use Rattle.workbench.specs.declared.splitting.Parting.TheVariants as parting
-use Rattle.proof_steps.specs.declared.piece.Outcome.TheVariants as outcome
 use Rattle.std.proofs.lemmas.Bool.{ne_eqb}
 
 -- what the answer of a reduction says
@@ -53,11 +55,11 @@ pub reduces-err : (s t : State) (l : Limit) (w : Result (ℤ × Polynomial) Limi
 reduces-err s t l (Ok p) x = absurd x
 reduces-err s t l (Err k) x = (ap Err (sym x.0), x.1)
 
-limit-met : (g f : Polynomial) (l : Limit) → bounded_reduction g f ≡ Err l → reduction_limit g f ≡ Some (limits.reason_of l)
+pub limit-met : (g f : Polynomial) (l : Limit) → bounded_reduction g f ≡ Err l → reduction_limit g f ≡ Some (limits.reason_of l)
 unfolding reduction_limit
 limit-met g f l e = ap limit_met e
 
-limit-none : (g f : Polynomial) (p : ℤ × Polynomial) → bounded_reduction g f ≡ Ok p → reduction_limit g f ≡ None
+pub limit-none : (g f : Polynomial) (p : ℤ × Polynomial) → bounded_reduction g f ≡ Ok p → reduction_limit g f ≡ None
 unfolding reduction_limit
 limit-none g f p e = ap limit_met e
 
@@ -196,6 +198,66 @@ drop-taken version base u c n i x enough at =
     let long : is_short (dropped n i) ≡ false = not-below _ (size_of (dropped n i)) (omega (arith, less, enough)) in
     (ap (λ b. if b then Some Fuel else None) (one-short (dropped n i) false long), x)
 
+-- ---- cancel
+pub condition-at : (s : State) (ps : List Poly) (i : ℕ) (p : Poly) → i < length ps → p ≡ get_or ps i p → polynomial_at s p ≡ get_or (map (polynomial_at s) ps) i []
+condition-at s [] i p h at = absurd (omega arith)
+condition-at s (q ∷ ps) zero p h at = ap (polynomial_at s) at
+condition-at s (q ∷ ps) (suc i) p h at = condition-at s ps i p (omega arith) at
+
+pub cancel-places : (version : ℕ) (s : State) (b : Bench) (g q : ℕ) → is_valid version (node_at s b) (attempt.Cancel g q) ≡ true → (g - 1 < length b.eqs.items) × (q - 1 < length b.nes.items)
+cancel-places version s b g q v =
+    let n = node_at s b in
+    let a = and_parts (has_second version && (has n.eqs g && has n.nes q)) _ v in
+    let h = and_parts (has n.eqs g) (has n.nes q) (and_parts (has_second version) _ a.0).1 in
+    let at = has-place n.eqs g h.0 in
+    let by = has-place n.nes q h.1 in
+    let l : length (map (held_at s) b.eqs.items) ≡ length b.eqs.items = length-map b.eqs.items (held_at s) in
+    let m : length (map (polynomial_at s) b.nes.items) ≡ length b.nes.items = length-map b.nes.items (polynomial_at s) in
+    (omega (arith, at, l), omega (arith, by, m))
+
+-- the equation has terms, and the condition has one
+pub cancel-some : (version : ℕ) (s : State) (b : Bench) (g q : ℕ) (x : Held) → is_valid version (node_at s b) (attempt.Cancel g q) ≡ true → x ≡ get_or b.eqs.items (g - 1) x → held_at s x ≢ []
+cancel-some version s b g q x v at none =
+    let n = node_at s b in
+    let a = (and_parts (has_second version && (has n.eqs g && has n.nes q)) _ v).1 in
+    let some = not-true (is_constant (item n.eqs g)) (and_parts (not (is_constant (item n.eqs g))) _ a).0 in
+    let is : item n.eqs g ≡ [] = sym (equation-at s b.eqs.items (g - 1) x (cancel-places version s b g q v).0 at) ∙ none in
+    let h : true ≡ false = sym (ap is_constant is) ∙ some in cc
+
+pub one-term : (q p : Polynomial) → shares_variable 0 (one_monomial q) p ≡ true → length q ≡ 1
+one-term [] p h = cc
+one-term ((es, c) ∷ []) p h = refl
+one-term ((es, c) ∷ f ∷ q) p h = cc
+
+pub cancel-one : (version : ℕ) (s : State) (b : Bench) (g q : ℕ) (p : Poly) → is_valid version (node_at s b) (attempt.Cancel g q) ≡ true → p ≡ get_or b.nes.items (q - 1) p → length (polynomial_at s p) ≡ 1
+cancel-one version s b g q p v at =
+    let n = node_at s b in
+    let a = (and_parts (has_second version && (has n.eqs g && has n.nes q)) _ v).1 in
+    let shares = (and_parts (not (is_constant (item n.nes q))) _ (and_parts (not (is_constant (item n.eqs g))) _ a).1).1 in
+    ap length (condition-at s b.nes.items (q - 1) p (cancel-places version s b g q v).1 at) ∙ one-term (item n.nes q) (item n.eqs g) shares
+
+-- what is made of the two is what the rule makes
+pub cancel-is : (version : ℕ) (s : State) (b : Bench) (g q : ℕ) (x : Held) (p : Poly) → is_valid version (node_at s b) (attempt.Cancel g q) ≡ true → x ≡ get_or b.eqs.items (g - 1) x
+    → p ≡ get_or b.nes.items (q - 1) p → without_variables (polynomial_at s p) (held_at s x) ≡ without_variables (item (node_at s b).nes q) (item (node_at s b).eqs g)
+cancel-is version s b g q x p v at by =
+    let places = cancel-places version s b g q v in
+    λ i. without_variables (condition-at s b.nes.items (q - 1) p places.1 by i) (equation-at s b.eqs.items (g - 1) x places.0 at i)
+
+cancel-fuel : (version : ℕ) (n : Node) (g q : ℕ) (b : Bool) → is_short (cancelled n g q) ≡ b → reason_of version n (attempt.Cancel g q) ≡ (if b then Some Fuel else None)
+cancel-fuel version n g q b s = ap (λ x. if x then Some Fuel else None) (one-short (cancelled n g q) b s)
+
+pub cancel-put : (version : ℕ) (base u : State) (c : Bench) (n : Node) (g q : ℕ) (p : Polynomial) → p ≡ without_variables (item n.nes q) (item n.eqs g) → Settled base u c true n (put_at n (g - 1) p)
+    → Cancels version base n g q (Ok tt) u c
+cancel-put version base u c n g q p is x =
+    let y = subst (λ (r : Polynomial). Settled base u c true n (put_at n (g - 1) r)) is x in
+    (cancel-fuel version n g q false y.0, y.1)
+
+pub cancel-short : (version : ℕ) (base u : State) (c : Bench) (n : Node) (g q : ℕ) (p : Polynomial) → p ≡ without_variables (item n.nes q) (item n.eqs g) → Settled base u c false n (put_at n (g - 1) p)
+    → Cancels version base n g q (Err Fuel) u c
+cancel-short version base u c n g q p is x =
+    let y = subst (λ (r : Polynomial). Settled base u c false n (put_at n (g - 1) r)) is x in
+    (cancel-fuel version n g q true y.0, y.1)
+
 -- ---- split
 pub split-class : (version : ℕ) (s : State) (b : Bench) (f : ℕ) (y : Held) → is_valid version (node_at s b) (attempt.Split f) ≡ true → f - 1 < length b.eqs.items → y ≡ get_or b.eqs.items (f - 1) y → is_constant (held_at s y) ≡ false
 split-class version s b f y v below by =
@@ -208,15 +270,44 @@ split-place version s b f v =
     let l : length (map (held_at s) b.eqs.items) ≡ length b.eqs.items = length-map b.eqs.items (held_at s) in
     omega (arith, by, l)
 
-split-reason : (version : ℕ) (n : Node) (f : ℕ) (b : Bool) → length n.path ≢ MOST_LETTERS → list_any is_short (made version n (attempt.Split f)) ≡ b → reason_of version n (attempt.Split f) ≡ (if b then Some Fuel else None)
-split-reason version n f b deep e =
-    ap (λ x. by_fuel (if x then Some Depth else None) (made version n (attempt.Split f))) (ne_eqb (length n.path) MOST_LETTERS deep) ∙ ap (λ x. if x then Some Fuel else None) e
+-- ---- the parts of a node whose path has not the most letters
+no-depth : (n : Node) → length n.path ≢ MOST_LETTERS → depth_limit n ≡ None
+no-depth n deep = ap (λ x. if x then Some Depth else None) (ne_eqb (length n.path) MOST_LETTERS deep)
 
-pub split-parts : (version : ℕ) {E : Type 0} (n : Node) (f : ℕ) (j r : Polynomial) (x : Result Parting E) → j ≡ primitive_initial (item n.eqs f) → r ≡ primitive_tail (item n.eqs f) → length n.path ≢ MOST_LETTERS
-    → IfOk x (λ p. PartedBy n (f - 1) j r p) → IfOk x (λ p. Parts version n f p)
-split-parts version n f j r (Err e) ji ri deep h = tt
-split-parts version n f j r (Ok p) ji ri deep h = by p (subst (λ (q : Polynomial × Polynomial). PartedBy n (f - 1) q.0 q.1 p) (λ i. (ji i, ri i)) h)
+parts-reason : (n : Node) (nodes : List Node) (b : Bool) → length n.path ≢ MOST_LETTERS → list_any is_short nodes ≡ b → reason_for (depth_limit n) nodes ≡ (if b then Some Fuel else None)
+parts-reason n nodes b deep e = ap (λ o. reason_for o nodes) (no-depth n deep) ∙ ap (λ x. if x then Some Fuel else None) e
+
+pub parts : {E : Type 0} (n : Node) (nodes others : List Node) (gain other : Polynomial) (x : Result Parting E) → length n.path ≢ MOST_LETTERS → nodes ≡ others → gain ≡ other
+    → IfOk x (λ p. PartedBy nodes gain p) → IfOk x (λ p. Parts n others other p)
+parts n nodes others gain other (Err e) deep is gi h = tt
+parts n nodes others gain other (Ok p) deep is gi h = by p (subst (λ (q : List Node × Polynomial). PartedBy q.0 q.1 p) (λ i. (is i, gi i)) h)
   where
-    by : (p : Parting) → PartedBy n (f - 1) (primitive_initial (item n.eqs f)) (primitive_tail (item n.eqs f)) p → Parts version n f p
-    by (parting.Parted k plus minus) y = (split-reason version n f false deep y.2, ap (λ q. AsOutcome (outcome.Split f q)) (sym y.0), y.1)
-    by (parting.Stopped why) y = split-reason version n f true deep y.1 ∙ ap Some (sym y.0)
+    by : (p : Parting) → PartedBy others other p → Parts n others other p
+    by (parting.Parted g plus minus) y = (parts-reason n others false deep y.2, y.0, y.1)
+    by (parting.Stopped why) y = parts-reason n others true deep y.1 ∙ ap Some (sym y.0)
+
+-- a factor: its place, its class, and the variable
+pub factor-place : (version : ℕ) (s : State) (b : Bench) (f : ℕ) (v : Polynomial) → may_factor version (node_at s b) f v ≡ true → f - 1 < length b.eqs.items
+factor-place version s b f v h =
+    let n = node_at s b in
+    let by = has-place n.eqs f (and_parts (has_second version) (has n.eqs f) (and_parts (has_second version && has n.eqs f) _ h).0).1 in
+    let l : length (map (held_at s) b.eqs.items) ≡ length b.eqs.items = length-map b.eqs.items (held_at s) in
+    omega (arith, by, l)
+
+pub factor-has : (version : ℕ) (n : Node) (f : ℕ) (v : Polynomial) → may_factor version n f v ≡ true → has_factor (item n.eqs f) v ≡ true
+factor-has version n f v h = (and_parts (not (is_constant (item n.eqs f))) _ (and_parts (has_second version && has n.eqs f) _ h).1).1
+
+-- the equation that a factor parts on: it has terms, and the variable divides it, at a place of its own
+pub record Factored (p v : Polynomial) : Type 0 where
+  pub some : p ≢ []
+  pub low : 1 ≤ class_of v
+  pub below : class_of v < class_of p
+  pub divides : is_divided (main_place v) p ≡ true
+
+pub factored : (p v : Polynomial) → has_factor p v ≡ true → Factored p v
+factored p v h =
+    let a = and_parts (is_factor p (class_of v)) (same v (variable_in p (main_place v))) h in
+    let f = and_parts (nat_lt (class_of v) (class_of p)) (is_divided (main_place v) p) a.0 in
+    let below = ltb-true (class_of v) (class_of p) f.0 in
+    let class : class_of v ≡ suc (main_place v) = ap class_of (same-is v (variable_in p (main_place v)) a.1) ∙ factor-class p (main_place v) f.1 in
+    record { some = λ e. (let z = ap class_of e in let n : class_of [] ≡ 0 = refl in absurd (omega (arith, z, n, below))); low = omega (arith, class); below = below; divides = f.1 }

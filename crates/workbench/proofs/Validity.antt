@@ -1,6 +1,6 @@
 -- Whether rules are valid, by what is known of the equations.
 use Rattle.std.proofs.Common.{◌≡◌, ℕ, ◌-◌, ◌<◌, ◌≤◌, List, [], ◌∷◌, length, map, take, get_or, sym, ◌∙◌, ap, subst, arith, Bool, true, false, ◌&&◌, ◌||◌, not}
-use Rattle.std.specs.Prelude.{◌==◌, ◌≢◌, nat_lt, nat_le}
+use Rattle.std.specs.Prelude.{◌==◌, ◌≢◌, nat_lt, nat_le, is_some}
 use Rattle.std.proofs.lemmas.Bool.{and_parts, eq-eqb, ltb-true, leb-true, ne_eqb}
 use Rattle.std.proofs.lemmas.List.{length-map, take-map}
 use Rattle.poly_model.specs.Reduction.{class_of, degree_at, has_polynomial, is_constant, is_zero, primitive_initial, reaches}
@@ -8,18 +8,23 @@ use Rattle.poly_model.specs.declared.limits.TheConstants.{MOST_VARIABLES}
 use Rattle.poly_model.proofs.Within.{within-of}
 use Rattle.polynomials.proofs.Reading.{class-within}
 use Rattle.proof_steps.specs.Numbers.{item, has}
-use Rattle.proof_steps.specs.Rules.{has_known_initial, is_valid}
+use mathlib.Core.Bool.{and-true}
+use Rattle.poly_model.specs.Powers.{one_monomial, shares_variable}
+use Rattle.proof_steps.specs.Rules.{has_known_initial, has_second, is_multiple, is_valid, least_factor}
 use Rattle.proof_steps.specs.declared.step.Attempt.TheVariants as attempt
 use Rattle.term_store.specs.States.{State}
-use Rattle.polynomials.specs.Held.{IsPoly}
-use Rattle.workbench.specs.Numbered.{IsNumbered, is_number_of}
+use Rattle.polynomials.specs.declared.poly.Poly.{Poly}
+use Rattle.polynomials.specs.Held.{IsPoly, polynomial_at}
+use Rattle.workbench.specs.Known.{cancels_in}
+use Rattle.workbench.specs.Numbered.{IsCondition, IsNumbered, is_number_of}
 use Rattle.workbench.specs.Owned.{AllLive}
-use Rattle.workbench.specs.Searches.{among_in}
+use Rattle.workbench.specs.Searches.{among_in, multiple_in}
 use Rattle.workbench.specs.Standing.{AreFound, Stands, Tells, held_at, held_slot, node_at}
 use Rattle.workbench.specs.declared.bench.Bench.{Bench}
 use Rattle.workbench.specs.declared.bench.Held.{Held}
 use Rattle.workbench.proofs.Benches as benches
 use Rattle.workbench.proofs.Tied as tied
+use Rattle.workbench.proofs.Tried as tried
 
 pub found-live : (s : State) (hs : List Held) → AreFound s hs → AllLive s (map held_slot hs)
 found-live s [] f = tt
@@ -62,21 +67,34 @@ found base s b i h st n =
     }
 
 pub drop-is : (version : ℕ) (base s : State) (b : Bench) (i : ℕ) (h : Held) → Stands base s [] b → IsNumbered b.eqs.items i h
-    → ((h.terms == 0) || among_in (held_at s) (take (i - 1) b.eqs.items) h) ≡ is_valid version (node_at s b) (attempt.Drop i)
+    → (((h.terms == 0) || among_in (held_at s) (take (i - 1) b.eqs.items) h) || (has_second version && multiple_in (held_at s) b.eqs.items h)) ≡ is_valid version (node_at s b) (attempt.Drop i)
 drop-is version base s b i h st n =
     let f = found base s b i h st n in
     let N = (node_at s b).nes in
     let before : has_polynomial (take (i - 1) (node_at s b).eqs) (held_at s h) ≡ among_in (held_at s) (take (i - 1) b.eqs.items) h =
     ap (λ l. has_polynomial l (held_at s h)) (take-map (held_at s) (i - 1) b.eqs.items)
     ∙ tied.among-tied (held_at s) N (take (i - 1) b.eqs.items) h (tied.tell-take (held_at s) N (i - 1) b.eqs.items st.tell) f.tells in
-    sym (λ j. f.there j && ((ap is_zero f.here ∙ tied.zero-told N h (held_at s h) f.tells) j || (ap (has_polynomial (take (i - 1) (node_at s b).eqs)) f.here ∙ before) j))
+    let multiple = ap (is_multiple (node_at s b).eqs) f.here ∙ tied.multiple-tied (held_at s) N b.eqs.items h st.tell f.tells in
+    sym (λ j. f.there j && (((ap is_zero f.here ∙ tied.zero-told N h (held_at s h) f.tells) j || (ap (has_polynomial (take (i - 1) (node_at s b).eqs)) f.here ∙ before) j)
+    || (has_second version && multiple j)))
+
+-- whether the equation is 0, one before it, or divided by another, one after the other
+abbrev pub dropped_by : (version : ℕ) → State → Bench → ℕ → Held → (zero among : Bool) → Bool
+dropped_by version s b i h zero among = (zero || among) || (has_second version && multiple_in (held_at s) b.eqs.items h)
 
 pub zero-drop : (version : ℕ) (base s : State) (b : Bench) (i : ℕ) (h : Held) → Stands base s [] b → IsNumbered b.eqs.items i h → h.terms ≡ 0 → true ≡ is_valid version (node_at s b) (attempt.Drop i)
-zero-drop version base s b i h st n z = sym (ap (λ k. k || among_in (held_at s) (take (i - 1) b.eqs.items) h) (eq-eqb h.terms 0 z)) ∙ drop-is version base s b i h st n
+zero-drop version base s b i h st n z =
+    sym (ap (λ k. dropped_by version s b i h k (among_in (held_at s) (take (i - 1) b.eqs.items) h)) (eq-eqb h.terms 0 z)) ∙ drop-is version base s b i h st n
 
 pub among-drop : (version : ℕ) (base s : State) (b : Bench) (i : ℕ) (h : Held) → Stands base s [] b → IsNumbered b.eqs.items i h → h.terms ≢ 0
-    → among_in (held_at s) (take (i - 1) b.eqs.items) h ≡ is_valid version (node_at s b) (attempt.Drop i)
-among-drop version base s b i h st n z = sym (ap (λ k. k || among_in (held_at s) (take (i - 1) b.eqs.items) h) (ne_eqb h.terms 0 z)) ∙ drop-is version base s b i h st n
+    → among_in (held_at s) (take (i - 1) b.eqs.items) h ≡ true → true ≡ is_valid version (node_at s b) (attempt.Drop i)
+among-drop version base s b i h st n z among =
+    sym ((λ j. dropped_by version s b i h (ne_eqb h.terms 0 z j) (among j))) ∙ drop-is version base s b i h st n
+
+pub multiple-drop : (version : ℕ) (base s : State) (b : Bench) (i : ℕ) (h : Held) → Stands base s [] b → IsNumbered b.eqs.items i h → h.terms ≢ 0
+    → among_in (held_at s) (take (i - 1) b.eqs.items) h ≡ false → (has_second version && multiple_in (held_at s) b.eqs.items h) ≡ is_valid version (node_at s b) (attempt.Drop i)
+multiple-drop version base s b i h st n z among =
+    sym ((λ j. dropped_by version s b i h (ne_eqb h.terms 0 z j) (among j))) ∙ drop-is version base s b i h st n
 
 pub red-is : (version : ℕ) (base s : State) (b : Bench) (g f : ℕ) (x h : Held) → Stands base s [] b → IsNumbered b.eqs.items g x → IsNumbered b.eqs.items f h
     → (not (g == f) && (not (h.class == 0) && (h.known && nat_le h.degree (degree_at (h.class - 1) (held_at s x))))) ≡ is_valid version (node_at s b) (attempt.Red g f)
@@ -111,3 +129,48 @@ pub split-is : (version : ℕ) (base s : State) (b : Bench) (f : ℕ) (h : Held)
 split-is version base s b f h st n =
     let q = found base s b f h st n in
     sym ((λ j. q.there j && not (is_constant (q.here j))) ∙ ap (λ k. not (k == 0)) (sym q.tells.class))
+
+-- ---- the rules of the second version
+pub condition-there : (s : State) (b : Bench) (q : ℕ) (p : Poly) → IsCondition b.nes.items q p → has (node_at s b).nes q ≡ true
+condition-there s b q p n = ap (λ l. nat_lt 0 q && nat_le q l) (length-map b.nes.items (polynomial_at s)) ∙ n.there
+
+pub cancel-is : (version : ℕ) (base s : State) (b : Bench) (g q : ℕ) (h : Held) (p : Poly) → Stands base s [] b → IsNumbered b.eqs.items g h → IsCondition b.nes.items q p
+    → (has_second version && (not (h.class == 0) && cancels_in (polynomial_at s p) (held_at s h))) ≡ is_valid version (node_at s b) (attempt.Cancel g q)
+cancel-is version base s b g q h p st n m =
+    let f = found base s b g h st n in
+    let there = condition-there s b q p m in
+    let parts = and_parts (nat_lt 0 q) (nat_le q (length b.nes.items)) m.there in
+    let low = ltb-true 0 q parts.0 in
+    let high = leb-true q (length b.nes.items) parts.1 in
+    let at : item (node_at s b).nes q ≡ polynomial_at s p = sym (tried.condition-at s b.nes.items (q - 1) p (omega (arith, low, high)) m.at) in
+    sym ((λ j. (has_second version && (f.there j && there j))
+    && (not (is_constant (f.here j)) && (not (is_constant (at j)) && shares_variable 0 (one_monomial (at j)) (f.here j))))
+    ∙ (λ j. and-true (has_second version) j && (not (sym f.tells.class j == 0) && cancels_in (polynomial_at s p) (held_at s h))))
+
+pub conditioned : (ps qs : List Poly) (j : ℕ) (p : Poly) → ps ≡ qs → IsCondition ps j p → IsCondition qs j p
+conditioned ps qs j p e n = subst (λ l. IsCondition l j p) e n
+
+pub condition-found : (base s : State) (b : Bench) (q : ℕ) (p : Poly) → Stands base s [] b → IsCondition b.nes.items q p → IsPoly s p
+condition-found base s b q p st m =
+    let parts = and_parts (nat_lt 0 q) (nat_le q (length b.nes.items)) m.there in
+    let low = ltb-true 0 q parts.0 in
+    let high = leb-true q (length b.nes.items) parts.1 in
+    benches.condition-poly base s [] b (q - 1) p st (omega (arith, low, high)) m.at
+
+pub cancel-may : (version : ℕ) (base s : State) (b : Bench) (g q : ℕ) (h : Held) (p : Poly) → Stands base s [] b → IsNumbered b.eqs.items g h → IsCondition b.nes.items q p
+    → has_second version ≡ true → h.class ≢ 0 → cancels_in (polynomial_at s p) (held_at s h) ≡ is_valid version (node_at s b) (attempt.Cancel g q)
+cancel-may version base s b g q h p st n m second some =
+    sym (λ j. second j && (not (ne_eqb h.class 0 some j) && cancels_in (polynomial_at s p) (held_at s h))) ∙ cancel-is version base s b g q h p st n m
+
+pub cancel-constant : (version : ℕ) (base s : State) (b : Bench) (g q : ℕ) (h : Held) (p : Poly) → Stands base s [] b → IsNumbered b.eqs.items g h → IsCondition b.nes.items q p
+    → has_second version ≡ true → h.class ≡ 0 → not (h.class == 0) ≡ is_valid version (node_at s b) (attempt.Cancel g q)
+cancel-constant version base s b g q h p st n m second none =
+    ap not (eq-eqb h.class 0 none)
+    ∙ sym (λ j. second j && (not (eq-eqb h.class 0 none j) && cancels_in (polynomial_at s p) (held_at s h))) ∙ cancel-is version base s b g q h p st n m
+
+pub part-is : (version : ℕ) (base s : State) (b : Bench) (f : ℕ) (h : Held) → Stands base s [] b → IsNumbered b.eqs.items f h
+    → (has_second version && not (h.factor == 0)) ≡ is_valid version (node_at s b) (attempt.Factor f)
+part-is version base s b f h st n =
+    let q = found base s b f h st n in
+    sym ((λ j. (has_second version && q.there j) && (not (is_constant (q.here j)) && is_some (least_factor (q.here j))))
+    ∙ (λ j. and-true (has_second version) j && tied.factor-told (node_at s b).nes h (held_at s h) q.tells j))

@@ -1,4 +1,5 @@
 pub mod Owned
+pub mod Known
 pub mod Standing
 pub mod Searches
 pub mod Dues
@@ -6,3 +7,4 @@ pub mod Taking
 pub mod Splitting
 pub mod Copies
 pub mod Numbered
+pub mod Voids

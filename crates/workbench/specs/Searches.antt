@@ -2,6 +2,7 @@
 use Rattle.std.specs.Prelude.{ℕ, suc, ◌+◌, ◌-◌, max, take, List, [], ◌∷◌, Bool, if◌then◌else◌, ◌&&◌, ◌||◌, not, ◌==◌, nat_lt}
 use Rattle.std.specs.List.{list_all, list_any}
 use Rattle.poly_model.specs.Polynomial.{Polynomial}
+use Rattle.poly_model.specs.Powers.{is_divided}
 use Rattle.poly_model.specs.Reduction.{same, has_polynomial}
 use Rattle.workbench.specs.declared.bench.Held.{Held}
 
@@ -60,9 +61,23 @@ meets q h = (q.class == h.class && q.degree == h.degree) && q.terms == h.terms
 abbrev pub among_in : (Held → Polynomial) → List Held → Held → Bool
 among_in f hs h = list_any (λ q. meets q h && same (f h) (f q)) hs
 
--- The number of the first equation that is 0 or equals one before it.
+-- Some other equation is a variable that divides it.
+abbrev pub divides_it : (Held → Polynomial) → Held → Held → Bool
+divides_it f h q = not (q.variable == 0) && (not (meets q h && same (f h) (f q)) && is_divided (q.variable - 1) (f h))
+
+abbrev pub multiple_in : (Held → Polynomial) → List Held → Held → Bool
+multiple_in f hs h = list_any (divides_it f h) hs
+
+-- The number of the first equation that is 0, equals one before it, or is divided by another, a variable.
 abbrev pub dropped_in : (Held → Polynomial) → List Held → ℕ
-dropped_in f hs = place_of (λ k h. h.terms == 0 || among_in f (take (k - 1) hs) h) 1 hs
+dropped_in f hs = place_of (λ k h. (h.terms == 0 || among_in f (take (k - 1) hs) h) || multiple_in f hs h) 1 hs
+
+-- The number of the first equation in which a condition cancels, and of the first that has a factor.
+abbrev pub cancelled_in : List Held → ℕ
+cancelled_in hs = place_of (λ k h. not (h.cancels == 0)) 1 hs
+
+abbrev pub factored_in : List Held → ℕ
+factored_in hs = place_of (λ k h. not (h.factor == 0)) 1 hs
 
 -- The number of the first equation that is one of the conditions.
 abbrev pub clashed_in : (Held → Polynomial) → List Polynomial → List Held → ℕ

@@ -3,12 +3,13 @@ use Rattle.std.specs.Prelude.{◌≡◌, ◌≤◌, ◌<◌, ◌^◌, ◌+◌, �
 use Rattle.poly_model.specs.Polynomial.{Polynomial}
 use Rattle.poly_model.specs.Standard.{is_standard}
 use Rattle.poly_model.specs.Reduction.{class_of, main_degree}
-use Rattle.poly_model.specs.declared.limits.TheConstants.{MOST_FUEL}
+use Rattle.poly_model.specs.declared.limits.TheConstants.{MOST_FUEL, MOST_VARIABLES}
 use Rattle.term_store.specs.States.{State}
 use Rattle.polynomials.specs.declared.poly.Poly.{Poly}
 use Rattle.polynomials.specs.Held.{slot_of, polynomial_at, IsPoly}
 use Rattle.proof_steps.specs.Rules.{has_known_initial, size_of, after, is_short}
 use Rattle.proof_steps.specs.declared.piece.Node.{Node}
+use Rattle.workbench.specs.Known.{variable_number, factor_number, cancel_number}
 use Rattle.workbench.specs.Owned.{Owns, AllLive, without}
 use Rattle.workbench.specs.declared.bench.Bench.{Bench}
 use Rattle.workbench.specs.declared.bench.Held.{Held}
@@ -42,6 +43,9 @@ pub record Tells (N : List Polynomial) (h : Held) (p : Polynomial) : Type 0 wher
   pub degree : h.degree ≡ main_degree p
   pub terms : h.terms ≡ length p
   pub known : h.known ≡ has_known_initial N p
+  pub variable : h.variable ≡ variable_number p
+  pub factor : h.factor ≡ factor_number p
+  pub cancels : h.cancels ≡ cancel_number N p
 
 abbrev pub AllTell : List Polynomial → List Held → List Polynomial → Type 0
 AllTell N [] [] = Unit {0}
@@ -62,6 +66,11 @@ pub record AreHeld (s : State) (ps : List Poly) : Type 0 where
 abbrev pub AreFound : State → List Held → Type 0
 AreFound s [] = Unit {0}
 AreFound s (h ∷ hs) = IsPoly s h.poly × AreFound s hs
+
+-- What they are by number is a variable, or none.
+abbrev pub AreWithin : List Held → Type 0
+AreWithin [] = Unit {0}
+AreWithin (h ∷ hs) = (h.variable ≤ MOST_VARIABLES) × AreWithin hs
 
 -- The node stands in the store, beside these lists and over the base.
 pub record Stands (base s : State) (ks : List ℕ) (b : Bench) : Type 0 where

@@ -4,10 +4,10 @@ use Rattle.poly_model.specs.Reduction.{reduction_of}
 use Rattle.poly_model.specs.declared.limits.Reason.{Reason}
 use Rattle.term_store.specs.States.{State}
 use Rattle.proof_steps.specs.Numbers.{item}
-use Rattle.proof_steps.specs.Rules.{cut, reason_of, reduced}
+use Rattle.proof_steps.specs.Rules.{cancelled, cut, reason_of, reduced}
 use Rattle.proof_steps.specs.declared.piece.Node.{Node}
 use Rattle.proof_steps.specs.declared.step.Attempt.{Attempt}
-use Rattle.proof_steps.specs.declared.step.Attempt.TheVariants.{Red, Tail}
+use Rattle.proof_steps.specs.declared.step.Attempt.TheVariants.{Cancel, Red, Tail}
 use Rattle.workbench.specs.Standing.{Becomes}
 use Rattle.workbench.specs.declared.bench.Bench.{Bench}
 
@@ -28,3 +28,8 @@ Reduces version base n g f (Err why) t c = StopsAt version base n (Red g f) why 
 abbrev pub Cuts : ℕ → State → Node → (f : ℕ) → Result (Unit {0}) Reason → State → Bench → Type 0
 Cuts version base n f (Ok done) t c = Leaves version base n (Tail f) (cut n f) t c
 Cuts version base n f (Err why) t c = StopsAt version base n (Tail f) why t c
+
+-- A division by the variables of a condition leaves a node, or is stopped.
+abbrev pub Cancels : ℕ → State → Node → (g q : ℕ) → Result (Unit {0}) Reason → State → Bench → Type 0
+Cancels version base n g q (Ok done) t c = Leaves version base n (Cancel g q) (cancelled n g q) t c
+Cancels version base n g q (Err why) t c = StopsAt version base n (Cancel g q) why t c

@@ -9,6 +9,7 @@ ghost use Rattle.workbench.specs.Standing.{AllTell, AreHeld, Tells, held_at, pol
 
 use crate::bench::Held;
 use crate::parts::{class_number, give_up, main_degree, primitive_initial, term_count};
+use crate::powers::{cancel_number, factor_number, variable_number};
 use polynomials::{Poly, same};
 use std::alloc::{AllocError, Global};
 use term_store::TermStore;
@@ -75,12 +76,16 @@ pub fn held<S: TermStore>(s: &mut S, nes: &[Poly], poly: Poly) -> Held
     ensures kept { Keeps (S.state s.old) (S.state s.new) }
 {
     let known = is_known(s, nes, poly);
+    let class = class_number(s, poly);
     Held {
         poly,
-        class: class_number(s, poly),
+        class,
         degree: main_degree(s, poly),
         terms: term_count(s, poly),
         known,
+        variable: variable_number(s.terms(poly.slot()), class),
+        factor: factor_number(s.terms(poly.slot()), class),
+        cancels: cancel_number(s, nes, poly, class),
     }
 }
 

@@ -8,6 +8,7 @@ mod lists;
 mod opening;
 mod order;
 mod parts;
+mod powers;
 mod repeats;
 mod search;
 mod splitting;
@@ -15,6 +16,7 @@ mod steps;
 mod taking;
 mod told;
 mod valid;
+mod voiding;
 
 pub use bench::{Bench, Held};
 pub use facts::{all_held, is_known};
@@ -22,8 +24,11 @@ pub use lists::{release, release_held, release_polys};
 pub use opening::open;
 pub use order::{Next, due};
 pub use parts::{class_number, give_up, term_count};
+pub use powers::{
+    cancels_in, divides, factor_number, variable_number, variable_of, without_variables,
+};
 pub use search::is_triangular;
-pub use splitting::{Parting, copy_conditions, copy_equations, split};
-pub use taking::{cut, drop, reduce};
+pub use splitting::{Parting, copy_conditions, copy_equations, factor, split};
+pub use taking::{cancel, cut, drop, reduce};
 pub use told::{copy_equation, is_told, tells_equation};
-pub use valid::{may_cut, may_drop, may_reduce, may_split, numbered};
+pub use valid::{may_cancel, may_cut, may_drop, may_part, may_reduce, may_split, numbered};

@@ -1,6 +1,6 @@
 // Searches among equations by what is known of them, with no look at their terms.
 ghost use Rattle.std.specs.Prelude.{◌≡◌, ◌<◌, ◌≤◌, ◌^◌, length};
-ghost use Rattle.workbench.specs.Searches.{count_in, all_known_in, none_less_in, is_less_than, is_least_of, settled_in, triangular_in, unsettled_in, least_in, other_in, number_in};
+ghost use Rattle.workbench.specs.Searches.{count_in, all_known_in, none_less_in, is_less_than, is_least_of, settled_in, triangular_in, unsettled_in, least_in, other_in, number_in, cancelled_in, factored_in};
 
 use crate::bench::Held;
 
@@ -143,6 +143,42 @@ pub fn number(hs: &[Held]) -> usize
     let mut k = 1;
     while let Some((first, after)) = rest.split_first() {
         if first.class == 0 && first.terms != 0 {
+            return k;
+        }
+        k += 1;
+        rest = after;
+    }
+    0
+}
+
+/// The number of the first equation in which a condition cancels, and 0 where there is none.
+pub fn cancelled(hs: &[Held]) -> usize
+    requires { length hs.now < 2 ^ 16 }
+    ensures place { result ≡ cancelled_in hs.now }
+    ensures within { result ≤ length hs.now }
+{
+    let mut rest = hs;
+    let mut k = 1;
+    while let Some((first, after)) = rest.split_first() {
+        if first.cancels != 0 {
+            return k;
+        }
+        k += 1;
+        rest = after;
+    }
+    0
+}
+
+/// The number of the first equation that has a factor, and 0 where there is none.
+pub fn factored(hs: &[Held]) -> usize
+    requires { length hs.now < 2 ^ 16 }
+    ensures place { result ≡ factored_in hs.now }
+    ensures within { result ≤ length hs.now }
+{
+    let mut rest = hs;
+    let mut k = 1;
+    while let Some((first, after)) = rest.split_first() {
+        if first.factor != 0 {
             return k;
         }
         k += 1;

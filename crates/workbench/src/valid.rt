@@ -3,16 +3,18 @@ ghost use Rattle.std.specs.Prelude.{◌≡◌, ◌≤◌, ◌<◌, ◌+◌, ◌-
 ghost use Rattle.poly_model.specs.Reduction.{degree_at, has_polynomial, primitive_initial};
 ghost use Rattle.poly_model.specs.declared.limits.TheConstants.{ARITH_UNITS, MOST_VARIABLES, POLY_UNITS};
 ghost use Rattle.proof_steps.specs.Rules.{is_valid};
-ghost use Rattle.proof_steps.specs.declared.step.Attempt.TheVariants.{Drop, Red, Split, Tail};
+ghost use Rattle.proof_steps.specs.declared.step.Attempt.TheVariants.{Cancel, Drop, Factor, Red, Split, Tail};
 ghost use Rattle.term_store.specs.Changes.{Keeps};
 ghost use Rattle.polynomials.specs.Held.{IsPoly, polynomial_at};
-ghost use Rattle.workbench.specs.Numbered.{IsNumbered, is_number_of};
+ghost use Rattle.workbench.specs.Numbered.{IsCondition, IsNumbered, is_condition_of, is_number_of};
 ghost use Rattle.workbench.specs.Standing.{AreFound, Stands, beneath, held_at, node_at};
 
 use crate::bench::{Bench, Held};
 use crate::parts::{give_up, primitive_initial};
-use crate::repeats::{is_among, is_equation};
+use crate::powers::cancels;
+use crate::repeats::{is_among, is_equation, is_multiple};
 use polynomials::{Poly, degree};
+use proof_steps::has_second;
 use term_store::TermStore;
 
 /// The equation of a number, if there is one.
@@ -23,7 +25,8 @@ pub fn numbered(hs: &[Held], i: u16) -> Option<Held>
     Some(*h)
 }
 
-/// The equation may be dropped: it is 0, or one of those before it.
+/// The equation may be dropped: it is 0, or one of those before it, or in the second version another one is a variable that
+/// divides it.
 pub fn may_drop<S: TermStore>(version: u8, s: &S, bench: &Bench, i: u16) -> bool
     requires { Stands (beneath (S.state s.now) bench.now) (S.state s.now) [] bench.now }
     ensures { result ≡ is_valid version (node_at (S.state s.now) bench.now) (Drop i) }
@@ -31,7 +34,13 @@ pub fn may_drop<S: TermStore>(version: u8, s: &S, bench: &Bench, i: u16) -> bool
     let Some(h) = numbered(&bench.eqs, i) else {
         return false;
     };
-    h.terms == 0 || is_among(s, &bench.eqs[..i as usize - 1], &h)
+    if h.terms == 0 {
+        return true;
+    }
+    if is_among(s, &bench.eqs[..i as usize - 1], &h) {
+        return true;
+    }
+    has_second(version) && is_multiple(s, &bench.eqs, &h)
 }
 
 /// The degree of the polynomial reaches that of the equation in its greatest variable.
@@ -107,5 +116,38 @@ pub fn may_split<S: TermStore>(version: u8, s: &S, bench: &Bench, f: u16) -> boo
     match numbered(&bench.eqs, f) {
         None => false,
         Some(h) => h.class != 0,
+    }
+}
+
+/// The condition of a number, if there is one.
+pub fn condition(ps: &[Poly], j: u16) -> Option<Poly>
+    ensures { MatchOption result (is_condition_of ps.now j ≡ false) (λ p. IsCondition ps.now j p) }
+{
+    let p = ps.get((j as usize).checked_sub(1)?)?;
+    Some(*p)
+}
+
+/// The equation of the number g may be divided by the variables of the condition of the number q.
+pub fn may_cancel<S: TermStore>(version: u8, s: &S, bench: &Bench, g: u16, q: u16) -> bool
+    requires { Stands (beneath (S.state s.now) bench.now) (S.state s.now) [] bench.now }
+    ensures { result ≡ is_valid version (node_at (S.state s.now) bench.now) (Cancel g q) }
+{
+    let Some(h) = numbered(&bench.eqs, g) else {
+        return false;
+    };
+    let Some(by) = condition(&bench.nes, q) else {
+        return false;
+    };
+    has_second(version) && (h.class != 0 && cancels(s, by, h.poly))
+}
+
+/// The node may be parted on a variable that divides the equation.
+pub fn may_part<S: TermStore>(version: u8, s: &S, bench: &Bench, f: u16) -> bool
+    requires { Stands (beneath (S.state s.now) bench.now) (S.state s.now) [] bench.now }
+    ensures { result ≡ is_valid version (node_at (S.state s.now) bench.now) (Factor f) }
+{
+    match numbered(&bench.eqs, f) {
+        None => false,
+        Some(h) => has_second(version) && h.factor != 0,
     }
 }

@@ -1,6 +1,7 @@
 -- Zeros of lists of equations and conditions.
-use Rattle.std.proofs.Common.{◌≡◌, ◌≢◌, ℕ, ◌<◌, zero, suc, List, [], ◌∷◌, ◌++◌, length, set, get_or, take, refl, sym, ◌∙◌, ap, arith, true, inl, inr}
+use Rattle.std.proofs.Common.{◌≡◌, ◌≢◌, ℕ, ◌<◌, zero, suc, List, [], ◌∷◌, ◌++◌, length, set, get_or, take, refl, sym, ◌∙◌, ap, arith, Bool, true, inl, inr}
 use Rattle.std.proofs.lemmas.Bool.{or_cases, or_left, or_right}
+use Rattle.std.specs.List.{list_any}
 use Rattle.poly_model.specs.Domain.{Operations}
 use Rattle.poly_model.specs.Polynomial.{Polynomial, value_at}
 use Rattle.poly_model.specs.Zeros.{AllZero, NoneZero}
@@ -50,6 +51,10 @@ module _ {M : Type 0} (o : Operations M) where
   none-front [] Q point z = tt
   none-front (p ∷ N) Q point z = (z.0, none-front N Q point z.1)
 
+  pub none-back : (N Q : List Polynomial) (point : List M) → NoneZero o (N ++ Q) point → NoneZero o Q point
+  none-back [] Q point z = z
+  none-back (p ∷ N) Q point z = none-back N Q point z.1
+
   pub none-get : (N : List Polynomial) (j : ℕ) (point : List M) → j < length N → NoneZero o N point → value_at o (get_or N j []) point ≢ o.zero
   none-get [] j point lt z = absurd (omega arith)
   none-get (p ∷ N) zero point lt z = z.0
@@ -89,6 +94,31 @@ module _ {M : Type 0} (o : Operations M) where
   all-before [] (suc i) point z = tt
   all-before (p ∷ E) zero point z = tt
   all-before (p ∷ E) (suc i) point z = (z.0, all-before E i point z.1)
+
+  -- an equation that passes a test, other than the one that is left out
+  pub record Passing (test : Polynomial → Bool) (point : List M) : Type 0 where
+    pub equation : Polynomial
+    pub passes : test equation ≡ true
+    pub zero : value_at o equation point ≡ o.zero
+
+  any-passes : (test : Polynomial → Bool) (E : List Polynomial) (point : List M) → list_any test E ≡ true → AllZero o E point → Passing test point
+  any-passes test [] point h z = cc
+  any-passes test (p ∷ E) point h z =
+      elim (or_cases (test p) (list_any test E) h) [
+        | inl t ↦ record { equation = p; passes = t; zero = z.0 }
+        | inr m ↦ any-passes test E point m z.1
+      ]
+
+  pub other-passes : (test : Polynomial → Bool) (E : List Polynomial) (i : ℕ) (point : List M) → list_any test E ≡ true
+      → (test (get_or E i []) ≡ true → ⊥) → AllZero o (without_place E i) point → Passing test point
+  other-passes test [] i point h n z = cc
+  other-passes test (p ∷ E) zero point h n z =
+      elim (or_cases (test p) (list_any test E) h) [ inl t ↦ absurd (n t) | inr m ↦ any-passes test E point m z ]
+  other-passes test (p ∷ E) (suc i) point h n z =
+      elim (or_cases (test p) (list_any test E) h) [
+        | inl t ↦ record { equation = p; passes = t; zero = z.0 }
+        | inr m ↦ other-passes test E i point m n z.1
+      ]
 
 -- where one polynomial is replaced, each other one stays
 pub member-set : (E : List Polynomial) (f : ℕ) (q p : Polynomial) → has_polynomial E p ≡ true → (p ≡ get_or E f [] → ⊥) → has_polynomial (set E f q) p ≡ true

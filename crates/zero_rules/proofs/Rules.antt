@@ -1,22 +1,25 @@
 -- Each rule keeps the zeros, and a closed or clashing node has none.
-use Rattle.std.proofs.Common.{◌≡◌, ◌≢◌, ℕ, ◌-◌, ◌<◌, List, [], ◌∷◌, length, get_or, set, take, sym, ◌∙◌, ap, arith, true, ◌&&◌, not, inl, inr, ◌⊎◌, ◌↔◌}
-use Rattle.std.specs.Prelude.{◌==◌, nat_lt, nat_le}
-use Rattle.std.proofs.lemmas.Bool.{and_parts, or_cases, eqb-false, ltb-true, leb-true, not-true}
+use Rattle.std.proofs.Common.{◌≡◌, ◌≢◌, ℕ, ◌-◌, ◌<◌, List, [], ◌∷◌, length, get_or, set, take, sym, ◌∙◌, ap, arith, Bool, true, ◌&&◌, ◌||◌, not, inl, inr, ◌⊎◌, ◌↔◌}
+use Rattle.std.specs.Prelude.{◌==◌, nat_lt, nat_le, is_some, is_none}
+use Rattle.std.proofs.lemmas.Bool.{and_parts, and_from, both_ways, or_cases, eqb-false, ltb-true, leb-true, not-true}
 use Rattle.std.proofs.lemmas.List.{get_or-set_other}
 use Rattle.poly_model.specs.Domain.{Operations, IsDomain, ZeroOrNot}
 use Rattle.poly_model.specs.Polynomial.{Polynomial, value_at}
 use Rattle.poly_model.proofs.Contents as contents
-use Rattle.poly_model.specs.Zeros.{NoneZero}
-use Rattle.proof_steps.specs.Numbers.{item, has}
-use Rattle.poly_model.specs.Reduction.{is_constant, is_zero, is_nonzero_constant, initial_of, tail_of, main_place, main_degree, primitive_initial, primitive_tail, reduction_of}
-use Rattle.proof_steps.specs.Rules.{has_known_initial, is_valid, reason_of, attempt_of, tells_result, stepped}
+use Rattle.poly_model.proofs.Powers as powers
+use Rattle.poly_model.specs.Zeros.{AllZero, NoneZero}
+use Rattle.poly_model.specs.Powers.{is_divided, is_variable, stripped, without_variables, has_factor}
+use Rattle.proof_steps.specs.Numbers.{item, has, without_place}
+use Rattle.proof_steps.proofs.Factors.{least-has, factor-divides}
+use Rattle.poly_model.specs.Reduction.{same, has_polynomial, class_of, reaches, is_constant, is_zero, is_nonzero_constant, initial_of, tail_of, main_place, main_degree, primitive_initial, primitive_tail, reduction_of}
+use Rattle.proof_steps.specs.Rules.{has_second, is_multiple, least_factor, least_variable, reduction_limit, has_known_initial, is_valid, reason_of, attempt_of, tells_result, stepped}
 use Rattle.proof_steps.specs.Reasons.{same_reason}
 use Rattle.proof_steps.specs.declared.step.Step.{Step}
 use Rattle.proof_steps.specs.declared.step.Step.TheVariants as step
 use Rattle.proof_steps.specs.declared.step.Attempt.TheVariants as attempt
 use Rattle.std.specs.Prelude.{None}
-use Rattle.zero_rules.specs.Keeping.{IsZeroOf, DropKeeps, RedKeeps, TailKeeps, SplitKeeps, RulesKeep, StepsKeep, CloseHasNone, ClashHasNone}
-use Rattle.poly_model.specs.Equality.{same-is}
+use Rattle.zero_rules.specs.Keeping.{IsZeroOf, DropKeeps, RedKeeps, TailKeeps, CancelKeeps, SplitKeeps, FactorKeeps, RulesKeep, StepsKeep, CloseHasNone, ClashHasNone, VoidHasNone}
+use Rattle.poly_model.specs.Equality.{same-is, same-self}
 use Rattle.poly_model.proofs.Classes.{initial-other}
 use Rattle.poly_model.proofs.Reductions.{reduction-zeros}
 use Rattle.poly_model.proofs.Constants as constants
@@ -54,15 +57,30 @@ module _ {M : Type 0} {o : Operations M} (L : IsDomain o) where
         | inr m ↦ lists.none-member o N (primitive_initial f) point z m J0
       ]
 
+  -- an equation is zero where another one is a variable that divides it
+  multiple-zero : (E : List Polynomial) (k : ℕ) (point : List M) → is_multiple E (get_or E k []) ≡ true → AllZero o (without_place E k) point
+      → v (get_or E k []) point ≡ o.zero
+  multiple-zero E k point h z =
+      let p = get_or E k [] in
+      let test : Polynomial → Bool = λ q. is_variable q && (not (same q p) && is_divided (main_place q) p) in
+      let found = lists.other-passes o test E k point h (λ t.
+      both_ways (same p p) (not-true (same p p) (and_parts (not (same p p)) _ (and_parts (is_variable p) _ t).1).0) (same-self p)) z in
+      let q = found.equation in
+      let a = and_parts (is_variable q) _ found.passes in
+      powers.divided-zero L (main_place q) p point (and_parts (not (same q p)) _ a.1).1 (sym (powers.variable-value L q point a.0) ∙ found.zero)
+
   pub drop_keeps : DropKeeps o
   drop_keeps version n i h point =
       let inside = and_parts (has n.eqs i) _ h in (
         λ z. (lists.all-without o n.eqs (i - 1) point z.0, z.1),
         λ z. (
           lists.all-with o n.eqs (i - 1) point z.0
-              (elim (or_cases (is_zero (item n.eqs i)) _ inside.1) [
-                | inl e ↦ constants.zero-is L (item n.eqs i) point e
-                | inr m ↦ lists.all-member o (take (i - 1) n.eqs) (item n.eqs i) point (lists.all-before o n.eqs (i - 1) point z.0) m
+              (elim (or_cases (is_zero (item n.eqs i) || has_polynomial (take (i - 1) n.eqs) (item n.eqs i)) _ inside.1) [
+                | inl s ↦ elim (or_cases (is_zero (item n.eqs i)) _ s) [
+                  | inl e ↦ constants.zero-is L (item n.eqs i) point e
+                  | inr m ↦ lists.all-member o (take (i - 1) n.eqs) (item n.eqs i) point (lists.all-before o n.eqs (i - 1) point z.0) m
+                ]
+                | inr s ↦ multiple-zero n.eqs (i - 1) point (and_parts (has_second version) _ s).1 z.0
               ]),
           z.1,
         ),
@@ -117,6 +135,48 @@ module _ {M : Type 0} {o : Operations M} (L : IsDomain o) where
             (lists.all-unset o E (f - 1) T point z.0 (law.1 T0), z.1),
       )
 
+  pub cancel_keeps : CancelKeeps o
+  cancel_keeps version n g q h point =
+      let E = n.eqs in
+      let Q = item n.nes q in
+      let r = without_variables Q (item E g) in
+      let a = and_parts (has_second version && (has E g && has n.nes q)) _ h in
+      let c = and_parts (has E g) (has n.nes q) (and_parts (has_second version) _ a.0).1 in
+      let law = λ (z : NoneZero o n.nes point). powers.without_variables-zeros L Q (item E g) point (lists.none-get o n.nes (q - 1) point (place-within n.nes q c.1) z) in (
+        λ z. (lists.all-set o E (g - 1) r point z.0 ((law z.1).0 (lists.all-get o E (g - 1) point z.0)), z.1),
+        λ z.
+            let R0 = lists.all-of_set o E (g - 1) r point (place-within E g c.0) z.0 in
+            (lists.all-unset o E (g - 1) r point z.0 ((law z.1).1 R0), z.1),
+      )
+
+  pub factor_keeps : ZeroOrNot o → FactorKeeps o
+  factor_keeps zero_or_not version n f x h point =
+      let E = n.eqs in
+      let F = item E f in
+      let i = main_place x in
+      let S = stripped i F in
+      let a = and_parts (has_second version && has E f) _ h in
+      let inside = place-within E f (and_parts (has_second version) _ a.0).1 in
+      let divides = (and_parts (not (is_constant F)) (has_factor F x) a.1).1 in
+      let value = powers.has_factor-value L F x point divides in (
+        λ z. elim (zero_or_not (v x point)) [
+          | inr not_zero ↦
+              let law = powers.stripped-zeros L i F point (λ y. not_zero (value ∙ y)) in
+              inl (lists.all-set o E (f - 1) S point z.0 (law.0 (lists.all-get o E (f - 1) point z.0)), lists.none-append o n.nes (x ∷ []) point z.1 (not_zero, tt))
+          | inl x0 ↦ inr (inl (lists.all-set o E (f - 1) x point z.0 x0, z.1))
+        ],
+        λ z. elim z [
+          | inl y ↦
+              let not_zero = (lists.none-back o n.nes (x ∷ []) point y.1).0 in
+              let law = powers.stripped-zeros L i F point (λ y. not_zero (value ∙ y)) in
+              (lists.all-unset o E (f - 1) S point y.0 (law.1 (lists.all-of_set o E (f - 1) S point inside y.0)), lists.none-front o n.nes (x ∷ []) point y.1)
+          | inr (inr w) ↦ absurd w
+          | inr (inl y) ↦
+              let x0 = lists.all-of_set o E (f - 1) x point inside y.0 in
+              (lists.all-unset o E (f - 1) x point y.0 (powers.divided-zero L i F point (factor-divides F x divides) (sym value ∙ x0)), y.1)
+        ],
+      )
+
   pub split_keeps : ZeroOrNot o → SplitKeeps o
   split_keeps zero_or_not version n f h point =
       let E = n.eqs in
@@ -150,10 +210,29 @@ module _ {M : Type 0} {o : Operations M} (L : IsDomain o) where
       lists.none-get o n.nes (j - 1) point (place-within n.nes j inside_j) z.1
       (ap (λ p. v p point) (sym (same-is _ _ h)) ∙ lists.all-get o n.eqs (i - 1) point z.0)
 
+  pub void_has_none : VoidHasNone o
+  void_has_none version n j f h point z =
+      let G = item n.nes j in
+      let F = item n.eqs f in
+      let a = and_parts (has_second version && (has n.nes j && has n.eqs f)) _ h in
+      let inside = and_parts (has n.nes j) (has n.eqs f) (and_parts (has_second version) _ a.0).1 in
+      let b = and_parts (not (is_constant F) && has_known_initial n.nes F) _ a.1 in
+      let known = (and_parts (not (is_constant F)) (has_known_initial n.nes F) b.0).1 in
+      let c = and_parts (class_of G == class_of F && reaches G F) _ b.1 in
+      let nothing = same-is (reduction_of G F).1 [] (and_parts (is_none (reduction_limit G F)) _ c.1).1 in
+      let law = reduction-zeros L G F point (lists.all-get o n.eqs (f - 1) point z.0) (known-not_zero n.nes F point z.1 known) in
+      lists.none-get o n.nes (j - 1) point (place-within n.nes j inside.0) z.1 (law.1 (ap (λ r. v r point) nothing))
+
   pub rule_keeps : ZeroOrNot o → RulesKeep o
   rule_keeps zero_or_not version n (attempt.Drop i) h point = one (drop_keeps version n i h point)
   rule_keeps zero_or_not version n (attempt.Red g f) h point = one (red_keeps version n g f h point)
   rule_keeps zero_or_not version n (attempt.Tail f) h point = one (tail_keeps version n f h point)
+  rule_keeps zero_or_not version n (attempt.Cancel g q) h point = one (cancel_keeps version n g q h point)
+  rule_keeps zero_or_not version n (attempt.Factor f) h point =
+      let F = item n.eqs f in
+      let a = and_parts (has_second version && has n.eqs f) _ h in
+      let b = and_parts (not (is_constant F)) (is_some (least_factor F)) a.1 in
+      factor_keeps zero_or_not version n f (least_variable F) (and_from _ _ a.0 (and_from _ _ b.0 (least-has F b.1))) point
   rule_keeps zero_or_not version n (attempt.Split f) h point = split_keeps zero_or_not version n f h point
 
   pub step_keeps : StepsKeep o
@@ -165,3 +244,4 @@ module _ {M : Type 0} {o : Operations M} (L : IsDomain o) where
       by (step.Drop i) k = drop_keeps version n i k point
       by (step.Red g f m r) k = red_keeps version n g f k point
       by (step.Tail f r) k = tail_keeps version n f k point
+      by (step.Cancel g q r) k = cancel_keeps version n g q k point

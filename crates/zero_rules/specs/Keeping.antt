@@ -4,8 +4,9 @@ use Rattle.poly_model.specs.Domain.{Operations}
 use Rattle.poly_model.specs.Zeros.{IsZero}
 use Rattle.poly_model.specs.Reduction.{same, is_nonzero_constant}
 use Rattle.proof_steps.specs.Numbers.{item, has}
-use Rattle.proof_steps.specs.Rules.{is_valid, dropped, reduced, cut, split_children, made, stepped}
-use Rattle.proof_steps.specs.Trees.{step_fits}
+use Rattle.poly_model.specs.Polynomial.{Polynomial}
+use Rattle.proof_steps.specs.Rules.{is_valid, is_void, dropped, reduced, cut, cancelled, split_children, factor_children, made, stepped}
+use Rattle.proof_steps.specs.Trees.{step_fits, may_factor}
 use Rattle.proof_steps.specs.Leaves.{SomeOf}
 use Rattle.proof_steps.specs.declared.piece.Node.{Node}
 use Rattle.proof_steps.specs.declared.step.Step.{Step}
@@ -37,8 +38,15 @@ RedKeeps o = (version : ℕ) (n : Node) (g f : ℕ) → IsTrue (is_valid version
 abbrev pub TailKeeps : {M : Type 0} → Operations M → Type 0
 TailKeeps o = (version : ℕ) (n : Node) (f : ℕ) → IsTrue (is_valid version n (attempt.Tail f)) → SameZeros o n (cut n f)
 
+abbrev pub CancelKeeps : {M : Type 0} → Operations M → Type 0
+CancelKeeps o = (version : ℕ) (n : Node) (g q : ℕ) → IsTrue (is_valid version n (attempt.Cancel g q)) → SameZeros o n (cancelled n g q)
+
 abbrev pub SplitKeeps : {M : Type 0} → Operations M → Type 0
 SplitKeeps o = (version : ℕ) (n : Node) (f : ℕ) → IsTrue (is_valid version n (attempt.Split f)) → ZerosTogether o n (split_children n f)
+
+-- Of a factor on any variable that divides.
+abbrev pub FactorKeeps : {M : Type 0} → Operations M → Type 0
+FactorKeeps o = (version : ℕ) (n : Node) (f : ℕ) (v : Polynomial) → IsTrue (may_factor version n f v) → ZerosTogether o n (factor_children n f v)
 
 -- Of every rule: the zeros are those of the nodes that it makes.
 abbrev pub RulesKeep : {M : Type 0} → Operations M → Type 0
@@ -48,10 +56,13 @@ RulesKeep o = (version : ℕ) (n : Node) (a : Attempt) → IsTrue (is_valid vers
 abbrev pub StepsKeep : {M : Type 0} → Operations M → Type 0
 StepsKeep o = (version : ℕ) (n : Node) (s : Step) → IsTrue (step_fits version n s) → SameZeros o n (stepped n s)
 
--- ---- where a node is closed, and where an equation clashes with a condition
+-- ---- where a node is closed, where an equation clashes with a condition, and where a condition is void
 
 abbrev pub CloseHasNone : {M : Type 0} → Operations M → Type 0
 CloseHasNone o = (n : Node) (i : ℕ) → IsTrue (has n.eqs i) → IsTrue (is_nonzero_constant (item n.eqs i)) → NoZeros o n
 
 abbrev pub ClashHasNone : {M : Type 0} → Operations M → Type 0
 ClashHasNone o = (n : Node) (i j : ℕ) → IsTrue (has n.eqs i) → IsTrue (has n.nes j) → IsTrue (same (item n.eqs i) (item n.nes j)) → NoZeros o n
+
+abbrev pub VoidHasNone : {M : Type 0} → Operations M → Type 0
+VoidHasNone o = (version : ℕ) (n : Node) (j f : ℕ) → IsTrue (is_void version n j f) → NoZeros o n

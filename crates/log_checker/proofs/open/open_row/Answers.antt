@@ -28,15 +28,15 @@ told-so true met r told i h e = ap (λ b. where_fits b i) (sym (ap (λ x. same_r
 told-so false met r told i h e = absurd (let q : false ≡ true = h.0 in cc)
 
 pub returns-in_default : goal.returns-in_default
-returns-in_default g c version =
-    none (is_valid version c.args.node c.args.what) (reason_of version c.args.node c.args.what) c.in_ok-met.field-0 c.args.told (there c.args.node c.args.told) (c.in_ok-met.ensures version) c.in_default.not-Some
+returns-in_default g c =
+    none (is_valid c.args.version c.args.node c.args.what) (reason_of c.args.version c.args.node c.args.what) c.in_ok-met.field-0 c.args.told (there c.args.node c.args.told) c.in_ok-met.ensures c.in_default.not-Some
 
 pub returns-then-not-is_met : goal.returns-then-not-is_met
-returns-then-not-is_met g c version =
-    let d = subst (Stops (is_valid version c.args.node c.args.what) (reason_of version c.args.node c.args.what)) c.in-Some.is (c.in_ok-met.ensures version) in
-    other (is_valid version c.args.node c.args.what) (reason_of version c.args.node c.args.what) c.in-Some.met c.args.told (there c.args.node c.args.told) d (sym c.is_met.ensures ∙ c.if-not-is_met.true)
+returns-then-not-is_met g c =
+    let d = subst (Stops (is_valid c.args.version c.args.node c.args.what) (reason_of c.args.version c.args.node c.args.what)) c.in-Some.is c.in_ok-met.ensures in
+    other (is_valid c.args.version c.args.node c.args.what) (reason_of c.args.version c.args.node c.args.what) c.in-Some.met c.args.told (there c.args.node c.args.told) d (sym c.is_met.ensures ∙ c.if-not-is_met.true)
 
 pub returns : goal.returns
-returns g c version =
-    let d = subst (Stops (is_valid version c.args.node c.args.what) (reason_of version c.args.node c.args.what)) c.in-Some.is (c.in_ok-met.ensures version) in
-    told-so (is_valid version c.args.node c.args.what) (reason_of version c.args.node c.args.what) c.in-Some.met c.args.told (there c.args.node c.args.told) d (sym c.is_met.ensures ∙ c.if-not-is_met.false)
+returns g c =
+    let d = subst (Stops (is_valid c.args.version c.args.node c.args.what) (reason_of c.args.version c.args.node c.args.what)) c.in-Some.is c.in_ok-met.ensures in
+    told-so (is_valid c.args.version c.args.node c.args.what) (reason_of c.args.version c.args.node c.args.what) c.in-Some.met c.args.told (there c.args.node c.args.told) d (sym c.is_met.ensures ∙ c.if-not-is_met.false)

@@ -1,5 +1,5 @@
-use Rattle.std.proofs.Common.{◌≡◌, ◌<◌, ℕ, length, ◌∷◌, [], ◌∙◌, ap, sym, subst, true, false}
-use Rattle.std.specs.Prelude.{Option, Some, None, MatchOption, is_none}
+use Rattle.std.proofs.Common.{◌≡◌, ◌<◌, ℕ, length, ◌∙◌, ap, sym, subst}
+use Rattle.std.specs.Prelude.{Option, Some, None, is_none}
 use Rattle.std.specs.List.{list_any}
 use Rattle.std.proofs.lemmas.Bool.{and_parts, not-true}
 use Rattle.poly_model.specs.Polynomial.{Polynomial}
@@ -9,7 +9,7 @@ use Rattle.proof_steps.specs.Numbers.{item, has}
 use Rattle.proof_steps.specs.Rules.{is_short, split_children, is_valid, limit_of}
 use Rattle.proof_steps.specs.declared.piece.Node.{Node}
 use Rattle.proof_steps.specs.declared.step.Attempt.TheVariants as attempt
-use Rattle.log_checker.specs.Trials.{Tries}
+use Rattle.log_checker.specs.Trials.{AreChildren, Tries}
 use Rattle.log_checker.specs.declared.rules.Trial.{Trial}
 use Rattle.log_checker.proofs.Fitness as fitness
 use Rattle.log_checker.proofs.open.split_reason.Goals as goal
@@ -19,7 +19,7 @@ Split version n f t =
     Tries (is_valid version n (attempt.Split f)) (limit_of version n (attempt.Split f)) (λ r. (r ≡ primitive_initial (item n.eqs f)) × (length n.path < MOST_LETTERS)) t
 
 abbrev Children : Node → ℕ → Option (Node × Node) → Type 0
-Children n f o = MatchOption o (list_any is_short (split_children n f) ≡ true) (λ pair. (list_any is_short (split_children n f) ≡ false) × (split_children n f ≡ pair.0 ∷ pair.1 ∷ []))
+Children n f o = AreChildren (split_children n f) o
 
 none-made : (n : Node) (f : ℕ) (o : Option (Node × Node)) → Children n f o → is_none o ≡ list_any is_short (split_children n f)
 none-made n f None h = sym h

@@ -9,14 +9,14 @@ use Rattle.log_checker.proofs.Fitness as fitness
 use Rattle.log_checker.proofs.rows.drop_row.Goals as goal
 
 pub without-requires : goal.without-requires
-without-requires c = (and_parts (has c.args.node.eqs c.args.i) _ (sym (c.may_drop.ensures 1) ∙ c.if-may_drop.true)).0
+without-requires c = (and_parts (has c.args.node.eqs c.args.i) _ (sym c.may_drop.ensures ∙ c.if-may_drop.true)).0
 
 pub returns-then-may_drop : goal.returns-then-may_drop
-returns-then-may_drop c version =
+returns-then-may_drop c =
     let m = dropped c.args.node c.args.i in
     c.with_fuel.ensures ∙ ap (λ (x : Node). if is_short x then None else Some x) c.without.ensures ∙ fitness.one-short (is_short m) m
-    ∙ fitness.done (is_valid version c.args.node (attempt.Drop c.args.i)) None _ true m (sym (c.may_drop.ensures version) ∙ c.if-may_drop.true) refl refl
+    ∙ fitness.done (is_valid c.args.version c.args.node (attempt.Drop c.args.i)) None _ true m (sym c.may_drop.ensures ∙ c.if-may_drop.true) refl refl
 
 pub returns-else-may_drop : goal.returns-else-may_drop
-returns-else-may_drop c version =
-    fitness.invalid (is_valid version c.args.node (attempt.Drop c.args.i)) _ true (dropped c.args.node c.args.i) (sym (c.may_drop.ensures version) ∙ c.if-may_drop.false)
+returns-else-may_drop c =
+    fitness.invalid (is_valid c.args.version c.args.node (attempt.Drop c.args.i)) _ true (dropped c.args.node c.args.i) (sym c.may_drop.ensures ∙ c.if-may_drop.false)

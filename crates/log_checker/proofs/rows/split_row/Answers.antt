@@ -1,5 +1,5 @@
-use Rattle.std.proofs.Common.{◌≡◌, ◌<◌, ℕ, length, [], ◌∷◌, ◌∙◌, ap, sym, subst, true, false}
-use Rattle.std.specs.Prelude.{Option, Some, None, MatchOption, if◌then◌else◌}
+use Rattle.std.proofs.Common.{◌≡◌, ◌<◌, ℕ, length, ◌∙◌, ap, sym, subst}
+use Rattle.std.specs.Prelude.{Option, Some, None, if◌then◌else◌}
 use Rattle.std.specs.List.{list_any}
 use Rattle.std.proofs.lemmas.Bool.{and_parts, not-false, not-true}
 use Rattle.poly_model.specs.Polynomial.{Polynomial}
@@ -11,7 +11,7 @@ use Rattle.proof_steps.specs.declared.piece.Node.{Node}
 use Rattle.proof_steps.specs.declared.step.Attempt.TheVariants as attempt
 use Rattle.verdicts.specs.Tallies.{Parts}
 use Rattle.log_checker.specs.Fitting.{listed, Ended}
-use Rattle.log_checker.specs.Trials.{Tries}
+use Rattle.log_checker.specs.Trials.{AreChildren, Tries}
 use Rattle.log_checker.proofs.Fitness as fitness
 use Rattle.log_checker.proofs.rows.split_row.Goals as goal
 
@@ -22,7 +22,7 @@ abbrev Split : ℕ → Node → ℕ → Rattle.log_checker.specs.declared.rules.
 Split version n f t = Tries (is_valid version n (attempt.Split f)) (limit_of version n (attempt.Split f)) (Gives n f) t
 
 abbrev Children : Node → ℕ → Option (Node × Node) → Type 0
-Children n f o = MatchOption o (list_any is_short (split_children n f) ≡ true) (λ pair. (list_any is_short (split_children n f) ≡ false) × (split_children n f ≡ pair.0 ∷ pair.1 ∷ []))
+Children n f o = AreChildren (split_children n f) o
 
 pub returns-in_default : goal.returns-in_default
 returns-in_default g c version =

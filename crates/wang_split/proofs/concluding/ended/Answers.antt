@@ -20,3 +20,10 @@ returns-in-Clashed-clause-rests g c =
     let enough : size_of here ≤ here.fuel = (let z = c.requires.stands.size in let e = c.requires.stands.fuel in omega (arith, z, e)) in
     let due = subst (λ x. next_of x ≡ work.next VERSION here) c.in-Clashed.is c.requires.due in
     concluded.clashed c.args.cons.now here c.args.steps.items c.in-Clashed.i c.in-Clashed.j c.bare-in-Clashed.result enough due c.bare-in-Clashed.ensures
+
+pub returns-in-Voided-clause-rests : goal.returns-in-Voided-clause-rests
+returns-in-Voided-clause-rests g c =
+    let here = node_at (g.S.TermStore.state c.args.s.now) c.args.bench.now in
+    let enough : size_of here ≤ here.fuel = (let z = c.requires.stands.size in let e = c.requires.stands.fuel in omega (arith, z, e)) in
+    let due = subst (λ x. next_of x ≡ work.next VERSION here) c.in-Voided.is c.requires.due in
+    concluded.voided c.args.cons.now here c.args.steps.items c.in-Voided.j c.in-Voided.f c.bare-in-Voided.result enough due c.bare-in-Voided.ensures

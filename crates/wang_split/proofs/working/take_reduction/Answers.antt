@@ -1,13 +1,4 @@
-use Rattle.std.proofs.Common.{◌≡◌, ◌∙◌, ap, sym, subst}
-use Rattle.std.specs.Prelude.{Ok, Err}
-use mir.Syntax.{w128}
-use mir.Val.{SFits}
-use Rattle.std.proofs.lemmas.Int.{to_z-of_z}
-use Rattle.proof_steps.specs.Numbers.{item}
-use Rattle.proof_steps.specs.declared.version.TheConstants.{VERSION}
-use Rattle.proof_steps.specs.declared.piece.Node.{Node}
-use Rattle.workbench.specs.Standing.{beneath, node_at}
-use Rattle.workbench.specs.Taking.{Reduces}
+use Rattle.workbench.specs.Standing.{node_at}
 use Rattle.workbench.proofs.Owning as owning
 use Rattle.workbench.proofs.Benches as benches
 use Rattle.workbench.proofs.Putting as putting

@@ -1,19 +1,23 @@
 use Rattle.std.proofs.Common.{◌≡◌, ◌+◌, ◌-◌, ◌<◌, length, map, ◌∷◌, [], refl, sym, ◌∙◌, ap, arith}
 use Rattle.std.proofs.lemmas.List.{length-map}
 use Rattle.polynomials.specs.Held.{polynomial_at}
+use Rattle.workbench.specs.Splitting.{more_at}
 use Rattle.workbench.specs.Standing.{node_at, held_at}
 use Rattle.workbench.proofs.Benches as benches
 use Rattle.workbench.proofs.Sharing as sharing
-use Rattle.workbench.proofs.Sharing.{Counted}
+use Rattle.workbench.proofs.Sharing.{Changed, Counted}
 use Rattle.workbench.proofs.splitting.children.Goals as goal
 
-pub overflow_sub-minus_size : goal.overflow_sub-minus_size
-overflow_sub-minus_size g c =
+pub overflow_sub-others : goal.overflow_sub-others
+overflow_sub-others g c =
     let s = g.S.TermStore.state c.args.s.now in
     let b = c.args.bench.now in
+    let n = node_at s b in
+    let h = c.args.change.now in
     let l : length (map (held_at s) b.eqs.items) ≡ length b.eqs.items = length-map b.eqs.items (held_at s) in
-    let t = ap (λ y. y.terms) c.index.ensures ∙ (benches.tell-at _ b.eqs.items (node_at s b).eqs c.args.at c.index.result.now c.requires.has c.requires.tell).terms in
-    let less = benches.sizes-without (node_at s b).eqs c.args.at (let h = c.requires.has in omega (arith, l, h)) in
+    let t = ap (λ y. y.terms) c.index.ensures ∙ (benches.tell-at _ b.eqs.items n.eqs h.at c.index.result.now c.requires.change.at c.requires.tell).terms in
+    let within : h.at < length n.eqs = (let e = c.requires.change.at in omega (arith, l, e)) in
+    let less = benches.sizes-without n.eqs h.at within in
     let z = c.requires.size in
     omega (arith, t, less, z)
 
@@ -21,35 +25,39 @@ pub returns-in_default : goal.returns-in_default
 returns-in_default g c =
     let s = g.S.TermStore.state c.args.s.now in
     let b = c.args.bench.now in
+    let n = node_at s b in
+    let h = c.args.change.now in
     let l : length (map (held_at s) b.eqs.items) ≡ length b.eqs.items = length-map b.eqs.items (held_at s) in
-    let t = ap (λ y. y.terms) c.index.ensures ∙ (benches.tell-at _ b.eqs.items (node_at s b).eqs c.args.at c.index.result.now c.requires.has c.requires.tell).terms in
-    let within : c.args.at < length (node_at s b).eqs = (let h = c.requires.has in omega (arith, l, h)) in
-    let less = benches.sizes-without (node_at s b).eqs c.args.at within in
+    let t = ap (λ y. y.terms) c.index.ensures ∙ (benches.tell-at _ b.eqs.items n.eqs h.at c.index.result.now c.requires.change.at c.requires.tell).terms in
+    let within : h.at < length n.eqs = (let e = c.requires.change.at in omega (arith, l, e)) in
+    let less = benches.sizes-without n.eqs h.at within in
     let z = c.requires.size in
-    let counted : Counted (node_at s b) c.args.at (polynomial_at s c.args.j) (polynomial_at s c.args.r) b.size c.index.result.now.terms c.term_count-gain.result (b.size - c.index.result.now.terms + c.term_count-terms.result + (1 + c.term_count-gain.result)) = record {
-      whole = c.requires.size;
+    let changed : Changed n = record { at = h.at; gain = polynomial_at s h.gain; up = polynomial_at s h.up; down = polynomial_at s h.down; more = more_at s h.more } in
+    let counted : Counted n changed c.term_count-terms.result (b.size - c.index.result.now.terms + c.term_count-up.result + (1 + c.term_count-terms.result)) (b.size - c.index.result.now.terms + c.term_count-down.result + c.more_size-more.result) = record {
       within = within;
-      terms = t;
-      gained = (let e = c.term_count-gain.ensures in omega (arith, e));
-      second = (let e = c.term_count-terms.ensures in omega (arith, e, t, less, z));
+      gained = (let e = c.term_count-terms.ensures in omega (arith, e));
+      first = (let e = c.term_count-up.ensures in omega (arith, e, t, less, z));
+      second = (let e = c.term_count-down.ensures in let m = c.more_size-more.ensures.size in omega (arith, e, m, t, less, z));
     } in
-    (refl, sharing.share-none (node_at s b) c.args.at (polynomial_at s c.args.j) (polynomial_at s c.args.r) b.size c.index.result.now.terms c.term_count-gain.result _ counted c.in_default.ensures)
+    (refl, sharing.share-none n changed c.term_count-terms.result _ _ counted c.in_default.ensures)
 
 pub returns : goal.returns
 returns g c =
     let s = g.S.TermStore.state c.args.s.now in
     let b = c.args.bench.now in
+    let n = node_at s b in
+    let h = c.args.change.now in
     let l : length (map (held_at s) b.eqs.items) ≡ length b.eqs.items = length-map b.eqs.items (held_at s) in
-    let t = ap (λ y. y.terms) c.index.ensures ∙ (benches.tell-at _ b.eqs.items (node_at s b).eqs c.args.at c.index.result.now c.requires.has c.requires.tell).terms in
-    let within : c.args.at < length (node_at s b).eqs = (let h = c.requires.has in omega (arith, l, h)) in
-    let less = benches.sizes-without (node_at s b).eqs c.args.at within in
+    let t = ap (λ y. y.terms) c.index.ensures ∙ (benches.tell-at _ b.eqs.items n.eqs h.at c.index.result.now c.requires.change.at c.requires.tell).terms in
+    let within : h.at < length n.eqs = (let e = c.requires.change.at in omega (arith, l, e)) in
+    let less = benches.sizes-without n.eqs h.at within in
     let z = c.requires.size in
-    let counted : Counted (node_at s b) c.args.at (polynomial_at s c.args.j) (polynomial_at s c.args.r) b.size c.index.result.now.terms c.term_count-gain.result (b.size - c.index.result.now.terms + c.term_count-terms.result + (1 + c.term_count-gain.result)) = record {
-      whole = c.requires.size;
+    let changed : Changed n = record { at = h.at; gain = polynomial_at s h.gain; up = polynomial_at s h.up; down = polynomial_at s h.down; more = more_at s h.more } in
+    let counted : Counted n changed c.term_count-terms.result (b.size - c.index.result.now.terms + c.term_count-up.result + (1 + c.term_count-terms.result)) (b.size - c.index.result.now.terms + c.term_count-down.result + c.more_size-more.result) = record {
       within = within;
-      terms = t;
-      gained = (let e = c.term_count-gain.ensures in omega (arith, e));
-      second = (let e = c.term_count-terms.ensures in omega (arith, e, t, less, z));
+      gained = (let e = c.term_count-terms.ensures in omega (arith, e));
+      first = (let e = c.term_count-up.ensures in omega (arith, e, t, less, z));
+      second = (let e = c.term_count-down.ensures in let m = c.more_size-more.ensures.size in omega (arith, e, m, t, less, z));
     } in
-    let f = sharing.share-some (node_at s b) c.args.at (polynomial_at s c.args.j) (polynomial_at s c.args.r) b.size c.index.result.now.terms c.term_count-gain.result _ c.in-Some.fuels.plus c.in-Some.fuels.minus counted c.in-Some.ensures.0 c.in-Some.ensures.1 c.in-Some.ensures.2 in
-    (c.in_ok-initial.ensures, f.0 ∙ (λ i. sym c.in_ok-plus.ensures i ∷ sym c.in_ok-minus.ensures i ∷ []), f.1)
+    let f = sharing.share-some n changed c.term_count-terms.result _ _ counted c.in-Some.fuels.plus c.in-Some.fuels.minus c.in-Some.ensures.0 c.in-Some.ensures.1 c.in-Some.ensures.2 in
+    (c.in_ok-gain.ensures, f.0 ∙ (λ i. sym c.in_ok-plus.ensures i ∷ sym c.in_ok-minus.ensures i ∷ []), f.1)

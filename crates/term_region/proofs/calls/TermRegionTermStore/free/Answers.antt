@@ -1,4 +1,4 @@
-use Rattle.std.proofs.Common.{ℕ, subst, ◌≡◌, sym, ◌∙◌, ap, arith, refl, length, true}
+use Rattle.std.proofs.Common.{ℕ, ◌+◌, ◌<◌, ◌≤◌, ◌≢◌, subst, ◌≡◌, sym, ◌∙◌, ap, arith, refl, length, true}
 use Rattle.std.proofs.lemmas.List.{get_or_read_under}
 use Rattle.term_store.specs.Runs as store
 use Rattle.term_region.specs.declared.run.Run.{Run}
@@ -18,12 +18,50 @@ index-run-requires c =
 pub vacate-requires-clause-live : goal.vacate-requires-clause-live
 vacate-requires-clause-live c = lists.live-run c.args.self.now.terms.items c.args.self.now.runs.items c.args.slot.0 c.requires
 
+pub last_end-end-requires-clause-ordered : goal.last_end-end-requires-clause-ordered
+last_end-end-requires-clause-ordered c =
+    let s = c.args.self.now in
+    let k = c.args.slot.0 in
+    let live = lists.live-run s.terms.items s.runs.items k c.requires in
+    subst (λ r. Ordered r s.order.items c.len.result) (sym c.deref.ensures.value)
+    (subst (λ n. Ordered c.vacate.new.runs.items s.order.items n) (omega arith)
+    (orders.ordered-vacated s.runs.items c.vacate.new.runs.items s.order.items (length s.terms.items) k s.kept.ordered c.vacate.ensures.dead
+    c.vacate.ensures.others c.vacate.ensures.slots))
+
 pub last_end-end-requires-clause-rank : goal.last_end-end-requires-clause-rank
 last_end-end-requires-clause-rank c =
     let s = c.args.self.now in
     let live = lists.live-run s.terms.items s.runs.items c.args.slot.0 c.requires in
+    omega (arith, ap (λ (r : Run). r.rank) (get_or_read_under s.runs.items c.args.slot.0 _ c.index-run.result.now no_run c.index-run.ensures (live-below s.runs.items c.args.slot.0 live) refl), s.kept.ordered.ranked c.args.slot.0 live)
+
+pub last_end-end-requires-clause-start : goal.last_end-end-requires-clause-start
+last_end-end-requires-clause-start c =
+    let s = c.args.self.now in
+    let live = lists.live-run s.terms.items s.runs.items c.args.slot.0 c.requires in
     let is : c.index-run.result.now ≡ run_at s.runs.items c.args.slot.0 = get_or_read_under s.runs.items c.args.slot.0 _ c.index-run.result.now no_run c.index-run.ensures (live-below s.runs.items c.args.slot.0 live) refl in
-    omega (arith, ap (λ (r : Run). r.rank) is, s.kept.ordered.ranked c.args.slot.0 live)
+    omega (arith, ap (λ (r : Run). r.start) is, s.kept.ordered.inside c.args.slot.0 live)
+
+pub last_end-end-requires-clause-alone : goal.last_end-end-requires-clause-alone
+last_end-end-requires-clause-alone c =
+    let s = c.args.self.now in
+    let live = lists.live-run s.terms.items s.runs.items c.args.slot.0 c.requires in
+    let is : c.index-run.result.now ≡ run_at s.runs.items c.args.slot.0 = get_or_read_under s.runs.items c.args.slot.0 _ c.index-run.result.now no_run c.index-run.ensures (live-below s.runs.items c.args.slot.0 live) refl in
+    subst (λ (r : Run). (k : ℕ) → (run_at c.deref.result.now k).live ≡ true → (run_at c.deref.result.now k).rank ≢ r.rank) (sym is)
+    (subst (λ rs. (k : ℕ) → (run_at rs k).live ≡ true → (run_at rs k).rank ≢ (run_at s.runs.items c.args.slot.0).rank) (sym c.deref.ensures.value)
+    (orders.alone s.runs.items c.vacate.new.runs.items s.order.items (length s.terms.items) c.args.slot.0 s.kept.ordered live c.vacate.ensures.dead
+    c.vacate.ensures.others))
+
+pub last_end-end-requires-clause-before : goal.last_end-end-requires-clause-before
+last_end-end-requires-clause-before c =
+    let s = c.args.self.now in
+    let live = lists.live-run s.terms.items s.runs.items c.args.slot.0 c.requires in
+    let is : c.index-run.result.now ≡ run_at s.runs.items c.args.slot.0 = get_or_read_under s.runs.items c.args.slot.0 _ c.index-run.result.now no_run c.index-run.ensures (live-below s.runs.items c.args.slot.0 live) refl in
+    subst (λ (r : Run). (k : ℕ) → (run_at c.deref.result.now k).live ≡ true → (run_at c.deref.result.now k).rank < r.rank
+    → (run_at c.deref.result.now k).start + (run_at c.deref.result.now k).len ≤ r.start) (sym is)
+    (subst (λ rs. (k : ℕ) → (run_at rs k).live ≡ true → (run_at rs k).rank < (run_at s.runs.items c.args.slot.0).rank
+    → (run_at rs k).start + (run_at rs k).len ≤ (run_at s.runs.items c.args.slot.0).start) (sym c.deref.ensures.value)
+    (orders.before s.runs.items c.vacate.new.runs.items s.order.items (length s.terms.items) c.args.slot.0 s.kept.ordered live c.vacate.ensures.dead
+    c.vacate.ensures.others))
 
 pub overflow_add-self : goal.overflow_add-self
 overflow_add-self c =
@@ -55,7 +93,7 @@ invariant_of-self c =
       kept = record {
         ordered = subst (λ n. Ordered rs c.last_end-end.new.order.items n) (sym total) o;
         free = c.vacate.ensures.vacant;
-        last = ap (λ x. newest_last rs (length c.last_end-end.new.order.items) (length c.truncate.new.self.items) x) c.without-self.ensures
+        last = ap (λ x. newest_last rs (length c.last_end-end.new.order.items) (length c.truncate.new.self.items) x) c.forget.ensures
             ∙ ap (λ n. newest_last rs (length c.last_end-end.new.order.items) n (newest_without c.args.slot.0 s.newest)) total
             ∙ orders.newest-kept s.runs.items rs s.order.items c.last_end-end.new.order.items (length s.terms.items) c.last_end-end.result c.args.slot.0 s.newest s.kept.last c.vacate.ensures.others last;
         room = omega (arith, len, c.vacate.ensures.units, s.kept.room);
