@@ -10,5 +10,7 @@ pub mod Turns
 pub mod Gathering
 pub mod Checkers
 pub mod Checked
+pub mod Held
 pub mod Pieces
+pub mod Streams
 pub mod Against

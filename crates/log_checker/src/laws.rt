@@ -1,6 +1,7 @@
 ghost use Rattle.std.specs.Prelude.{◌≡◌, ℕ, List};
 ghost use Rattle.log_checker.specs.Answers.{Finding, IsFound};
 ghost use Rattle.log_checker.specs.Accepted.{AcceptedGoesOn, FittingIsAccepted, PiecesAreWritten, PiecesEnd};
+ghost use Rattle.log_checker.specs.Held.{HeldIsPaid};
 
 /// The lines of a piece behind its first fit at a node, and end in some nodes, exactly where the piece fits the node and
 /// these nodes follow it. A piece that fits some node is written: nothing of it is left out of its lines.
@@ -18,4 +19,9 @@ pub fn fitting_is_accepted()
 /// Of no bytes two things are found: they are accepted as the text of one log, or have one first fault.
 pub fn findings_are_unique()
     ensures { (bytes : List ℕ) (x y : Finding) → IsFound x bytes → IsFound y bytes → x ≡ y }
+{}
+
+/// What is open of a tree behind lines that fit, and the nodes that wait, have no more size than the fuel of the proof.
+pub fn held_is_paid()
+    ensures { HeldIsPaid }
 {}
