@@ -1,6 +1,6 @@
 #!/usr/bin/env bash
 # Counts the instructions that `gclc check` takes for logs of growing size, beside those of `gclc prove` that wrote them, and
-# tells the most memory that `check` had for a log of some tens of MB.
+# tells the most memory that `check` had for logs of tens of MB, and for one of 200 MB that is at fault in its first line.
 set -eu
 top=$(cd "$(dirname "$0")/.." && pwd)
 "$top/gclc" svg "$top/examples/segment.gcl" >/dev/null
@@ -54,6 +54,12 @@ make_long_log() {
     }'
 }
 
+# A log of 200 MB whose first line is at fault.
+make_refused_log() {
+    echo "gclc-proof 9"
+    yes "node ." | head -c 200000000
+}
+
 # The most memory of a run, in MB.
 peak() {
     "$program" "$@" >"$work/said" &
@@ -62,7 +68,7 @@ peak() {
         most=$now
         sleep 0.02
     done
-    wait $!
+    wait $! || true
     echo $((most / 1024))
 }
 
@@ -80,3 +86,5 @@ for terms in 500 1000 2000; do
     most=$(peak check "$work/long")
     echo "A log of $((bytes / 1000000)) MB: $(tail -1 "$work/said"), at most $most MB of memory"
 done
+make_refused_log >"$work/refused"
+echo "A log of 200 MB behind a fault in its first line: at most $(peak check "$work/refused") MB of memory"

@@ -10,6 +10,9 @@ pub mod Inside
 pub mod Fits
 mod Running
 mod Passes
+pub mod Paying
+mod Weights
+mod Feedings
 mod Tellings
 mod Assured
 pub mod Readings

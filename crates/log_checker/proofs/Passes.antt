@@ -1,6 +1,5 @@
 -- Lines that are checked one behind the other, and the pieces of a log.
-use Rattle.std.proofs.Common.{◌≡◌, ℕ, ◌+◌, ◌^◌, ◌<◌, ◌≤◌, List, [], ◌∷◌, ◌++◌, length, take, drop, true, refl, sym, ◌∙◌, ap, arith, Some, None, Result, Ok, Err, append_assoc, append-nil, subst, length-append, inl, ◌⊎◌}
-use Rattle.std.proofs.lemmas.Grind.{common_steps}
+use Rattle.std.proofs.Common.{◌≡◌, ℕ, ◌+◌, ◌^◌, ◌<◌, ◌≤◌, List, [], ◌∷◌, ◌++◌, length, true, refl, sym, ◌∙◌, ap, arith, Some, None, Result, Ok, Err, append_assoc, append-nil, subst, length-append, inl, ◌⊎◌}
 use Rattle.poly_model.specs.declared.vars.VarName.{VarName}
 use Rattle.proof_log.specs.Feeding.{Fed, FedWith, IsFed, FedTo, Stopped}
 use Rattle.proof_log.specs.Grammar.{Begins, Refuses, EndsEarly, names_behind}
@@ -15,14 +14,13 @@ use Rattle.proof_log.specs.declared.reader.LogFault.TheVariants as log
 use Rattle.proof_log.proofs.Held.{begins_more, refuses_more}
 use Rattle.proof_log.proofs.Logs.{front_is}
 use Rattle.log_checker.specs.Answers.{IsMalformed, IsRejected}
-use Rattle.log_checker.specs.Checked.{Judged}
 use Rattle.log_checker.specs.Checkers.{state_of}
 use Rattle.log_checker.specs.Fitting.{State, begin, after, fitted}
+use Rattle.log_checker.specs.Held.{IsUpTo, leaf_behind}
 use Rattle.log_checker.specs.Gathering.{Gathered, nothing, gathered, gathered_after, gathered_of}
-use Rattle.log_checker.specs.Pieces.{IsNew, Went, Goes, Misfits, IsBehind, PieceDone}
+use Rattle.log_checker.specs.Pieces.{Went, Goes, Misfits, IsBehind}
 use Rattle.log_checker.specs.declared.checking.Progress.{Progress}
-use Rattle.log_checker.specs.declared.fault.CheckFault.{CheckFault}
-use Rattle.log_checker.proofs.Running.{fitted_append, fitted_snoc}
+use Rattle.log_checker.proofs.Running.{fitted_append, fitted_snoc, leaf_append, leaf_snoc}
 
 -- ---- what lines tell
 pub gathered_append : (g : Gathered) (a b : List LogLine) → gathered g (a ++ b) ≡ gathered (gathered g a) b
@@ -41,13 +39,15 @@ pub record Sofar (p : Progress) (ls front left : List LogLine) (q : Progress) (c
   pub counts : count ≡ length front
 
 went_none : (p : Progress) → Went p [] p
-unfolding fitted gathered
-went_none p = record { fit = refl; told = refl }
+unfolding fitted gathered leaf_behind
+went_none p = record { fit = refl; told = refl; leaf = λ k e. e }
 
 went_snoc : (p q r : Progress) (ls : List LogLine) (l : LogLine) → Went p ls q → Goes q l true r → Went p (ls ++ l ∷ []) r
 went_snoc p q r ls l w g = record {
   fit = fitted_snoc (state_of p.checker) (state_of q.checker) (state_of r.checker) ls l w.fit g.0;
   told = g.1 ∙ ap (λ t. gathered_after t l) w.told ∙ sym (gathered_snoc (gathered_of p.told) ls l);
+  leaf = λ k e. subst (λ x. IsUpTo r.leaf x) (sym (leaf_snoc (state_of p.checker) (state_of q.checker) (state_of r.checker) k ls l w.fit g.0))
+      (g.2 (leaf_behind (state_of p.checker) k ls) (w.leaf k e));
 }
 
 pub none_checked : (p : Progress) (ls left : List LogLine) → left ≡ ls → Sofar p ls [] left p 0
@@ -195,53 +195,14 @@ piece_whole front added r p q bytes piece seen n all small f h w many e =
       record {
         fit = fitted_append begin (state_of p.checker) front added h.fit ∙ w.fit;
         told = w.told ∙ ap (λ g. gathered g added) h.told ∙ sym (gathered_append nothing front added);
+        leaf = subst (λ x. IsUpTo q.leaf x) (sym (leaf_append begin (state_of p.checker) 0 front added h.fit)) (w.leaf (leaf_behind begin 0 front) h.leaf);
         count = omega (arith, count, many, is, both);
       },
     )
 
--- ---- the loop over pieces
-pub record Passed (bytes rest : List ℕ) (r : LogReader) (p : Progress) (seen : ℕ) : Type 0 where
-  pub done : List ℕ
-  pub parts : bytes ≡ done ++ rest
-  pub front : List LogLine
-  pub fed : Fed front r done
-  pub behind : IsBehind front p seen
-
+-- ---- the reader's last word
 pub as_fed : (front : List LogLine) (r : LogReader) (bytes : List ℕ) → Fed front r bytes → IsFed front r bytes
 as_fed front r bytes f = subst (λ o. FedWith o front r bytes) (sym f.well) f
-
-pub passed_more : (bytes rest piece after : List ℕ) (r q : LogReader) (c d : Progress) (seen all : ℕ) (p : Passed bytes rest r c seen) → rest ≡ piece ++ after
-    → PieceDone (Ok all) p.front q d p.done piece → Passed bytes after q d all
-passed_more bytes rest piece after r q c d seen all p e b = record {
-  done = p.done ++ piece;
-  parts = p.parts ∙ ap (λ t. p.done ++ t) e ∙ sym (append_assoc p.done piece after);
-  front = p.front ++ b.0;
-  fed = b.1;
-  behind = b.2;
-}
-
-pub passed_fault : (bytes rest piece after : List ℕ) (r : LogReader) (c : Progress) (seen : ℕ) (f : CheckFault) (p : Passed bytes rest r c seen)
-    → rest ≡ piece ++ after
-    → ((more : List ℕ) → Judged (Err f) (p.done ++ (piece ++ more))) → Judged (Err f) bytes
-passed_fault bytes rest piece after r c seen f p e h = subst (λ t. Judged (Err f) t) (sym (p.parts ∙ ap (λ t. p.done ++ t) e)) (h after)
-
-pub none_passed : (bytes : List ℕ) (r : LogReader) (p : Progress) → IsFed [] r [] → r.fault ≡ None → IsNew p → Passed bytes bytes r p 0
-unfolding fitted gathered
-none_passed bytes r p f e g = record {
-  done = [];
-  parts = refl;
-  front = [];
-  fed = subst (λ o. FedWith o [] r []) e f;
-  behind = record { fit = ap Some (sym g.begins); told = g.told; count = refl };
-}
-
-pub all_passed : (bytes rest : List ℕ) (r : LogReader) (p : Progress) (seen : ℕ) (s : Passed bytes rest r p seen) → length rest ≡ 0 → s.done ≡ bytes
-all_passed bytes [] r p seen s e = sym (s.parts ∙ append-nil s.done)
-all_passed bytes (b ∷ rest) r p seen s e = absurd (omega (arith, e))
-
-pub both_parts : (n : ℕ) (t front behind : List ℕ) → front ≡ take n t → behind ≡ drop n t → t ≡ front ++ behind
-both_parts n t front behind e f = let h : take n t ++ drop n t ≡ t = grind (arith, common_steps) in sym h ∙ ap (λ x. x ++ drop n t) (sym e) ∙ ap
-    (λ x. front ++ x) (sym f)
 
 pub ends_ill : (front : List LogLine) (p : Progress) (bytes : List ℕ) (seen n : ℕ) → (Refuses front bytes ⊎ EndsEarly front bytes) × (n ≡ length front + 1)
     → IsBehind front p seen → IsMalformed n bytes

@@ -85,7 +85,13 @@ pub record IsCovered {M : Type 0} (o : Operations M) (checked : Checked) (bytes 
 abbrev pub AreOf : Option Files → List ℕ → List ℕ → Type 0
 AreOf held name bytes = (file : List ℕ) → Holds held name file → bytes ≡ file
 
--- The answer is one of some bytes, which were read once, whether the desk tells its files or not; and these assure what is told.
+-- The answer is one of some bytes, which were read once, whether the desk tells its files or not.
+pub record WasRead (held : Option Files) (name : List ℕ) (result : Result Checked CheckFault) : Type 0 where
+  pub bytes : List ℕ
+  pub own : AreOf held name bytes
+  pub judged : ReadJudged result bytes
+
+-- And these assure what is told of them.
 pub record ReadOnce {M : Type 0} (o : Operations M) (held : Option Files) (name : List ℕ) (result : Result Checked CheckFault) : Type 0 where
   pub bytes : List ℕ
   pub own : AreOf held name bytes

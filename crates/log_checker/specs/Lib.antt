@@ -10,6 +10,8 @@ pub mod Turns
 pub mod Gathering
 pub mod Checkers
 pub mod Checked
+pub mod Held
 pub mod Pieces
+pub mod Streams
 pub mod Against
 pub mod Excluded

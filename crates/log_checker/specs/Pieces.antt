@@ -11,6 +11,7 @@ use Rattle.log_checker.specs.Checked.{Judged}
 use Rattle.log_checker.specs.Checkers.{state_of}
 use Rattle.log_checker.specs.Fitting.{State, begin, after, fitted}
 use Rattle.log_checker.specs.Gathering.{nothing, gathered, gathered_after, gathered_of}
+use Rattle.log_checker.specs.Held.{IsUpTo, leaf_after, leaf_behind}
 use Rattle.log_checker.specs.declared.checking.Lines.{Lines}
 use Rattle.log_checker.specs.declared.checking.Lines.TheVariants as lines
 use Rattle.log_checker.specs.declared.checking.Progress.{Progress}
@@ -21,16 +22,19 @@ use Rattle.log_checker.specs.declared.fault.CheckFault.{CheckFault}
 pub record IsNew (p : Progress) : Type 0 where
   pub begins : state_of p.checker ≡ begin
   pub told : gathered_of p.told ≡ nothing
+  pub leaf : p.leaf ≡ 0
 
 -- Lines fit behind what is known, and this is known behind them.
 pub record Went (p : Progress) (ls : List LogLine) (q : Progress) : Type 0 where
   pub fit : fitted (state_of p.checker) ls ≡ Some (state_of q.checker)
   pub told : gathered_of q.told ≡ gathered (gathered_of p.told) ls
+  pub leaf : (k : ℕ) → IsUpTo p.leaf k → IsUpTo q.leaf (leaf_behind (state_of p.checker) k ls)
 
 -- A line that fits, with what is known behind it.
 abbrev pub Goes : Progress → LogLine → (fits : Bool) → Progress → Type 0
 Goes p l false q = after (state_of p.checker) l ≡ None
 Goes p l true q = (after (state_of p.checker) l ≡ Some (state_of q.checker)) × (gathered_of q.told ≡ gathered_after (gathered_of p.told) l)
+    × ((k : ℕ) → IsUpTo p.leaf k → IsUpTo q.leaf (leaf_after (state_of p.checker) k l))
 
 -- The first of these lines that does not fit has so many before it.
 pub record Misfits (s : State) (ls : List LogLine) (count : ℕ) (word : LineWord) : Type 0 where
@@ -52,6 +56,7 @@ LinesJudged p ls q (lines.Misfit count word) = Misfits (state_of p.checker) ls c
 pub record IsBehind (front : List LogLine) (p : Progress) (seen : ℕ) : Type 0 where
   pub fit : fitted begin front ≡ Some (state_of p.checker)
   pub told : gathered_of p.told ≡ gathered nothing front
+  pub leaf : IsUpTo p.leaf (leaf_behind begin 0 front)
   pub count : seen ≡ length front
 
 abbrev pub PieceDone : Result ℕ CheckFault → List LogLine → LogReader → Progress → List ℕ → List ℕ → Type 0

@@ -4,11 +4,12 @@ ghost use Rattle.desk_io.specs.Files.{Holds, Lacks};
 ghost use Rattle.poly_model.specs.declared.limits.TheConstants.{MOST_LOG_BYTES};
 ghost use Rattle.log_checker.specs.Checked.{FileJudged, Judged, AreAssured, IsCovered, ReadOnce};
 
-use crate::checking::{Checked, check_bytes};
+use crate::checking::Checked;
 use crate::fault::CheckFault;
+use crate::reading::{check_bytes, check_file};
 use assurance::{trees_cover, trees_keep_to_their_variables, verdicts_hold};
-use desk_io::{Desk, DeskFault, read_whole};
-use poly_model::{Domain, MOST_LOG_BYTES};
+use desk_io::Desk;
+use poly_model::Domain;
 use std::alloc::Global;
 
 /// Checks the text of a log that anyone may have written: it is accepted, or its first line at fault is told.
@@ -29,7 +30,7 @@ pub fn check_text<D: Domain>(alloc: Global, domain: &D, text: &[u8]) -> Result<C
 
 /// Checks a log that anyone may have written: it is accepted, or its first line at fault is told.
 ///
-/// The log is read once, to its end. The domain is not used: the call tells what the verdicts mean in it.
+/// The log is read once, to its end, and never held whole. The domain is not used: the call tells what the verdicts mean in it.
 pub fn check_log<D: Domain, K: Desk>(
     alloc: Global,
     domain: &D,
@@ -54,10 +55,8 @@ pub fn check_log<D: Domain, K: Desk>(
     ensures same { K.held desk.new ≡ K.held desk.old }
     ensures later { K.faults desk.old ≤ K.faults desk.new }
 {
-    match read_whole(alloc, desk, name, MOST_LOG_BYTES) {
-        Ok(bytes) => check_text(alloc, domain, &bytes),
-        Err(DeskFault::ReadFault) => Err(CheckFault::ReadFault),
-        Err(DeskFault::TooLarge) => Err(CheckFault::TooLarge),
-        Err(DeskFault::OutOfMemory) => Err(CheckFault::OutOfMemory),
-    }
+    trees_cover(domain);
+    verdicts_hold(domain);
+    trees_keep_to_their_variables();
+    check_file(alloc, desk, name)
 }

@@ -1,17 +1,19 @@
 // The lines of a log, one at a time.
-ghost use Rattle.std.specs.Prelude.{◌≡◌, ◌∷◌, ◌++◌, [], nat_le, IfOk, OnOk};
+ghost use Rattle.std.specs.Prelude.{◌≡◌, ◌<◌, ◌^◌, ℕ, ◌∷◌, ◌++◌, [], nat_le, IfOk, OnOk};
 ghost use Rattle.proof_log.specs.Headings.{share_of};
 ghost use Rattle.proof_log.specs.declared.limits.TheConstants.{FIRST_FUEL};
 ghost use Rattle.proof_steps.specs.Rules.{size_of};
 ghost use Rattle.verdicts.specs.Tallies.{Parts, no_tally, tally_after};
 ghost use Rattle.log_checker.specs.Checkers.{state_of};
 ghost use Rattle.log_checker.specs.Fitting.{Opening, begin, after, root, is_own_part, where_fits, settled, node_row, node_settled, verdict_row, verdict_settled, inside_row};
+ghost use Rattle.log_checker.specs.Held.{IsUpTo, node_size, held_of};
 ghost use Rattle.log_checker.specs.Views.{ending_view};
 
 use crate::arith::is_own_part;
 use crate::children::copies;
 use crate::end::{PieceEnd, end_of};
 use crate::ending::Ending;
+use crate::held::{open_size, size, sizes};
 use crate::node::with_fuel;
 use crate::piece::Inside;
 use crate::tally::Tally;
@@ -326,5 +328,31 @@ impl LineChecker {
             | LogLine::Ne(_) => return self.read_within(line),
         }
         Ok(true)
+    }
+
+    /// The size of the node at which a piece stands.
+    pub fn node_size(&self) -> u32
+        ensures { IsUpTo result (node_size (state_of self.now).part) }
+    {
+        match &self.part {
+            Part::Within(_, Inside::At(node)) => size(node),
+            Part::Within(_, Inside::Solving(_)) => 0,
+            Part::Within(_, Inside::Stopped(_, _)) => 0,
+            Part::Within(_, Inside::Parted { .. }) => 0,
+            Part::Within(_, Inside::Ended(_)) => 0,
+            Part::Opening | Part::Between => 0,
+        }
+    }
+
+    /// The sizes of what is open and of the nodes that wait, where the leaf that was begun last has this size.
+    pub fn held(&self, leaf: u32) -> u32
+        ensures size { (k : ℕ) → IsUpTo leaf k → IsUpTo result (held_of (state_of self.now) k) }
+        ensures fuel { (state_of self.now).fuel < 2 ^ 32 }
+    {
+        let _fuel = self.fuel;
+        match &self.part {
+            Part::Within(_, inside) => open_size(inside, leaf).saturating_add(sizes(&self.waiting)),
+            Part::Opening | Part::Between => 0,
+        }
     }
 }

@@ -1,8 +1,8 @@
 ghost use Rattle.std.specs.Prelude.{◌≡◌, ◌≤◌, ◌<◌, ◌+◌, ◌^◌, [], ◌++◌, ℕ, List, length, vec_len, IfOk, OnOk, Result, Ok, Err};
-ghost use Rattle.poly_model.specs.declared.limits.TheConstants.{MOST_LOG_BYTES};
 ghost use Rattle.proof_log.specs.Feeding.{IsFed};
 ghost use Rattle.proof_log.specs.declared.line.LogLine.{LogLine};
-ghost use Rattle.log_checker.specs.Checked.{Judged, Tells};
+ghost use Rattle.log_checker.specs.Checkers.{state_of};
+ghost use Rattle.log_checker.specs.Held.{IsUpTo, leaf_after, held_of};
 ghost use Rattle.log_checker.specs.Pieces.{Goes, IsNew, IsBehind, LinesJudged, PieceDone, fed_of, is_memory};
 
 use crate::checker::LineChecker;
@@ -26,6 +26,8 @@ pub struct Checked {
 pub struct Progress {
     checker: LineChecker,
     told: Gathering,
+    /// The size of the node whose leaf was begun last.
+    leaf: u32,
 }
 
 impl Progress {
@@ -35,17 +37,47 @@ impl Progress {
         Ok(Progress {
             checker: LineChecker::new(alloc)?,
             told: Gathering::new(alloc),
+            leaf: 0,
         })
+    }
+
+    /// The size of the node whose leaf was begun last, behind this line.
+    fn leaf_after(&self, line: &LogLine) -> u32
+        ensures { (k : ℕ) → IsUpTo self.now.leaf k
+            → IsUpTo result (leaf_after (state_of self.now.checker) k line.now) }
+    {
+        match line {
+            LogLine::System | LogLine::Open { .. } => self.checker.node_size(),
+            LogLine::Head(_) | LogLine::Fuel(_) | LogLine::Proves(_) | LogLine::Prove(_) =>
+                self.leaf,
+            LogLine::Vars(_) => self.leaf,
+            LogLine::Hyp(_) | LogLine::Con(_) | LogLine::Node(_) | LogLine::Drop(_) => self.leaf,
+            LogLine::Red { .. } | LogLine::Tail { .. } | LogLine::Split { .. } => self.leaf,
+            LogLine::Close(_) | LogLine::Clash(_, _) | LogLine::Chain(_) | LogLine::Proved =>
+                self.leaf,
+            LogLine::Remainder(_) | LogLine::Unreduced { .. } | LogLine::Eq(_) => self.leaf,
+            LogLine::Ne(_) | LogLine::Verdict(_) | LogLine::End => self.leaf,
+        }
     }
 
     fn line(&mut self, line: LogLine) -> Result<bool, AllocError>
         ensures { IfOk result (λ fits. Goes self.old line fits self.new) }
     {
+        self.leaf = self.leaf_after(&line);
         self.told.add_line(&line)?;
         self.checker.line(line)
     }
 
-    fn checked(self) -> Checked
+    /// The sizes of what is open and of the nodes that wait.
+    pub fn held(&self) -> u32
+        ensures size { (k : ℕ) → IsUpTo self.now.leaf k
+            → IsUpTo result (held_of (state_of self.now.checker) k) }
+        ensures fuel { (state_of self.now.checker).fuel < 2 ^ 32 }
+    {
+        self.checker.held(self.leaf)
+    }
+
+    pub fn checked(self) -> Checked
         ensures problems { result.problems ≡ self.told.problems.items }
         ensures verdicts { result.verdicts ≡ self.told.verdicts.items }
     {
@@ -111,7 +143,7 @@ fn is_memory(stop: Stop) -> bool
 }
 
 /// Checks the lines that a piece of the log ends, and drops them. Tells how many lines there are with those seen before.
-fn check_piece(
+pub fn check_piece(
     alloc: Global,
     reader: &mut LogReader,
     progress: &mut Progress,
@@ -119,6 +151,7 @@ fn check_piece(
     piece: &[u8],
 ) -> Result<usize, CheckFault>
     requires { reader.old.fed + length piece.now ≤ 2 ^ 30 }
+    ensures within { reader.new.fed ≤ reader.old.fed + length piece.now }
     ensures fed { OnOk result (reader.new.fed ≡ reader.old.fed + length piece.now) }
     ensures done { (bytes : List ℕ) (front : List LogLine) → length bytes ≡ reader.old.fed
         → IsFed front reader.old bytes → IsBehind front progress.old seen
@@ -137,33 +170,5 @@ fn check_piece(
             Stop::At(n) => Err(CheckFault::Malformed(n)),
             Stop::Memory => Err(CheckFault::OutOfMemory),
         },
-    }
-}
-
-// How many bytes are read into lines at a time.
-const PIECE: usize = 65_536;
-
-/// Checks the bytes of a log, piece by piece.
-pub fn check_bytes(alloc: Global, bytes: &[u8]) -> Result<Checked, CheckFault>
-    requires { length bytes.now ≤ MOST_LOG_BYTES }
-    ensures { Judged result bytes.now }
-{
-    let Ok(mut reader) = LogReader::new(alloc) else {
-        return Err(CheckFault::OutOfMemory);
-    };
-    let Ok(mut progress) = Progress::new(alloc) else {
-        return Err(CheckFault::OutOfMemory);
-    };
-    let mut seen = 0;
-    let mut rest = bytes;
-    while !rest.is_empty() {
-        let (piece, after) = rest.split_at(rest.len().min(PIECE));
-        seen = check_piece(alloc, &mut reader, &mut progress, seen, piece)?;
-        rest = after;
-    }
-    match reader.finish() {
-        Ok(()) => Ok(progress.checked()),
-        Err(LogFault::Malformed(n)) => Err(CheckFault::Malformed(n)),
-        Err(LogFault::OutOfMemory) => Err(CheckFault::OutOfMemory),
     }
 }

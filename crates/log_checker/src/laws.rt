@@ -2,6 +2,7 @@ ghost use Rattle.std.specs.Prelude.{◌≡◌, ℕ, List};
 ghost use Rattle.log_checker.specs.Answers.{Finding, IsFound};
 ghost use Rattle.log_checker.specs.Excluded.{CancelsAreByConditions, FactorsReplace, VoidsLeaveNothing};
 ghost use Rattle.log_checker.specs.Accepted.{AcceptedGoesOn, FittingIsAccepted, PiecesAreWritten, PiecesEnd};
+ghost use Rattle.log_checker.specs.Held.{HeldIsPaid};
 
 /// The lines of a piece behind its first fit at a node, and end in some nodes, exactly where the piece fits the node and
 /// these nodes follow it. A piece that fits some node is written: nothing of it is left out of its lines.
@@ -27,4 +28,9 @@ pub fn rules_keep_their_conditions()
     ensures cancels { CancelsAreByConditions }
     ensures factors { FactorsReplace }
     ensures voids { VoidsLeaveNothing }
+{}
+
+/// What is open of a tree behind lines that fit, and the nodes that wait, have no more size than the fuel of the proof.
+pub fn held_is_paid()
+    ensures { HeldIsPaid }
 {}

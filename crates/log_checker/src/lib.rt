@@ -13,15 +13,18 @@ mod end;
 mod ending;
 mod fault;
 mod gathering;
+mod held;
 mod laws;
 mod leaf;
 mod lists;
 mod node;
 mod open;
 mod piece;
+mod reading;
 mod reads;
 mod rows;
 mod rules;
+mod stream;
 mod tally;
 mod triangular;
 mod variables;
@@ -32,6 +35,7 @@ pub use check::{check_log, check_text};
 pub use checking::Checked;
 pub use fault::CheckFault;
 pub use laws::{
-    findings_are_unique, fitting_is_accepted, pieces_end_in_what_follows,
+    findings_are_unique, fitting_is_accepted, held_is_paid, pieces_end_in_what_follows,
     rules_keep_their_conditions,
 };
+pub use stream::Checker;

@@ -1,36 +1,33 @@
-use Rattle.std.proofs.Common.{◌∙◌, subst, length, ap, arith, Err, IfOk}
-use Rattle.poly_model.specs.declared.limits.TheConstants.{MOST_LOG_BYTES}
-use Rattle.log_checker.specs.Checked.{IsCovered}
-use Rattle.log_checker.proofs.Readings.{some_bytes, many_bytes, of_bytes}
+use Rattle.std.proofs.Common.{subst, IfOk}
+use Rattle.log_checker.specs.Checked.{FileJudged, IsCovered}
+use Rattle.log_checker.proofs.Readings.{file_judged, many_told, read_assured, read_covered}
 use Rattle.log_checker.proofs.check.check_log.Goals as goal
 
-pub returns-in-Ok-clause-read : goal.returns-in-Ok-clause-read
-returns-in-Ok-clause-read g c =
-    let bytes = c.deref.result.now in
+pub returns-clause-read : goal.returns-clause-read
+returns-clause-read g c =
+    let read = c.check_file.ensures.read in
     record {
-      bytes = bytes;
-      own = λ file holds. c.deref.ensures.value ∙ c.in-Ok.ensures.whole file holds;
-      judged = of_bytes c.check_text.result bytes (omega (arith, c.in-Ok.ensures.fits, ap length c.deref.ensures.value)) c.check_text.ensures.judged;
-      covered = c.check_text.ensures.covered;
+      bytes = read.bytes;
+      own = read.own;
+      judged = read.judged;
+      covered = read_covered g.D.Domain.operations c.trees_cover.ensures c.check_file.result read.bytes read.judged;
     }
 
-pub returns-in-Err-ReadFault-clause-read : goal.returns-in-Err-ReadFault-clause-read
-returns-in-Err-ReadFault-clause-read g c =
-    let some = some_bytes (g.K.Desk.held c.args.desk.now) c.args.name.now in
-    record { bytes = some.0; own = some.1; judged = tt; covered = tt }
+pub returns-clause-judged : goal.returns-clause-judged
+returns-clause-judged g c file holds =
+    let read = c.check_file.ensures.read in
+    subst (FileJudged c.check_file.result) (read.own file holds) (file_judged c.check_file.result read.bytes read.judged)
 
-pub returns-in-Err-TooLarge-clause-read : goal.returns-in-Err-TooLarge-clause-read
-returns-in-Err-TooLarge-clause-read g c =
-    let many = many_bytes (g.K.Desk.held c.args.desk.now) c.args.name.now MOST_LOG_BYTES
-    (λ file holds. c.in-Err-TooLarge.ensures.too_large file holds (ap Err c.in-Err-TooLarge.field-0-is)) in
-    record { bytes = many.bytes; own = many.own; judged = many.many; covered = tt }
+pub returns-clause-assured : goal.returns-clause-assured
+returns-clause-assured g c =
+    let read = c.check_file.ensures.read in
+    read_assured g.D.Domain.operations c.verdicts_hold.ensures c.trees_keep_to_their_variables.ensures c.check_file.result read.bytes read.judged
 
-pub returns-in-Err-OutOfMemory-clause-read : goal.returns-in-Err-OutOfMemory-clause-read
-returns-in-Err-OutOfMemory-clause-read g c =
-    let some = some_bytes (g.K.Desk.held c.args.desk.now) c.args.name.now in
-    record { bytes = some.0; own = some.1; judged = tt; covered = tt }
+pub returns-clause-covered : goal.returns-clause-covered
+returns-clause-covered g c file holds =
+    let read = c.check_file.ensures.read in
+    subst (λ bytes. IfOk c.check_file.result (λ checked. IsCovered g.D.Domain.operations checked bytes)) (read.own file holds)
+    (read_covered g.D.Domain.operations c.trees_cover.ensures c.check_file.result read.bytes read.judged)
 
-pub returns-in-Ok-clause-covered : goal.returns-in-Ok-clause-covered
-returns-in-Ok-clause-covered g c file holds =
-    subst (λ bytes. IfOk c.check_text.result (λ checked. IsCovered g.D.Domain.operations checked bytes))
-    (c.deref.ensures.value ∙ c.in-Ok.ensures.whole file holds) c.check_text.ensures.covered
+pub returns-clause-many : goal.returns-clause-many
+returns-clause-many g c = let read = c.check_file.ensures.read in many_told c.check_file.result read.bytes read.judged
