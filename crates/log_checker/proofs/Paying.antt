@@ -97,6 +97,7 @@ stepped-less : (n : Node) (s : Step) → (stepped n s).fuel ≤ n.fuel
 stepped-less n (step.Drop i) = omega arith
 stepped-less n (step.Red g f m r) = omega arith
 stepped-less n (step.Tail f r) = omega arith
+stepped-less n (step.Cancel g q r) = omega arith
 
 step-paid : (fuel w leaf version : ℕ) (n : Node) (s : Step) (j : Inside) → Stands fuel w n → step_row version n s ≡ Some j → PaidWork fuel w leaf j.eqs j.nes j.work
 step-paid fuel w leaf version n s j p e =
@@ -111,6 +112,7 @@ step-paid fuel w leaf version n s j p e =
     enough (step.Drop i) h = one-short (stepped n (step.Drop i)) h
     enough (step.Red g f m r) h = one-short (stepped n (step.Red g f m r)) h
     enough (step.Tail f r) h = one-short (stepped n (step.Tail f r)) h
+    enough (step.Cancel g q r) h = one-short (stepped n (step.Cancel g q r)) h
 
 split-paid : (fuel w leaf version : ℕ) (n : Node) (f : ℕ) (initial : Polynomial) (j : Inside) → Stands fuel w n → split_row version n f initial ≡ Some j
     → PaidWork fuel w leaf j.eqs j.nes j.work
@@ -124,6 +126,20 @@ split-paid fuel w leaf version n f initial j p e =
     let plus = holds-size (plus_child n J n.eqs rest) short.0 in
     let minus = one-short (minus_child n J rest) short.1 in
     let some = size-some (plus_child n J n.eqs rest) in
+    subst (λ (x : Inside). PaidWork fuel w leaf x.eqs x.nes x.work) a.1
+    (record { enough = (plus, (minus, tt)); within = omega (arith, plus, some, p.within); open_leaf = omega (arith, p.within) })
+
+factor-paid : (fuel w leaf version : ℕ) (n : Node) (f : ℕ) (v : Polynomial) (j : Inside) → Stands fuel w n → factor_row version n f v ≡ Some j
+    → PaidWork fuel w leaf j.eqs j.nes j.work
+factor-paid fuel w leaf version n f v j p e =
+    let a = fits-some (may_factor version n f v && same_reason (reason_for (depth_limit n) (factor_children n f v)) None) _ j e in
+    let free = none-reason (reason_for (depth_limit n) (factor_children n f v)) (and_parts (may_factor version n f v) _ a.0).1 in
+    let up = replaced n.eqs f (stripped (main_place v) (item n.eqs f)) in
+    let down = replaced n.eqs f v in
+    let short = or_parts (is_short (plus_child n v up down)) _ (reason_by-none (depth_limit n) (list_any is_short (factor_children n f v)) free).1 in
+    let plus = holds-size (plus_child n v up down) short.0 in
+    let minus = one-short (minus_child n v down) short.1 in
+    let some = size-some (plus_child n v up down) in
     subst (λ (x : Inside). PaidWork fuel w leaf x.eqs x.nes x.work) a.1
     (record { enough = (plus, (minus, tt)); within = omega (arith, plus, some, p.within); open_leaf = omega (arith, p.within) })
 
@@ -212,10 +228,14 @@ unfolding in_piece
 inside-paid fuel w leaf version cons i j (line.Drop k) p e = at-node-paid fuel w leaf leaf i j _ p (λ n is s q. step-paid fuel w leaf version n (step.Drop k) j s q) e
 inside-paid fuel w leaf version cons i j (line.Red g f m r) p e = at-node-paid fuel w leaf leaf i j _ p (λ n is s q. step-paid fuel w leaf version n (step.Red g f m r) j s q) e
 inside-paid fuel w leaf version cons i j (line.Tail f r) p e = at-node-paid fuel w leaf leaf i j _ p (λ n is s q. step-paid fuel w leaf version n (step.Tail f r) j s q) e
+inside-paid fuel w leaf version cons i j (line.Cancel g c r) p e = at-node-paid fuel w leaf leaf i j _ p (λ n is s q. step-paid fuel w leaf version n (step.Cancel g c r) j s q) e
+inside-paid fuel w leaf version cons i j (line.Factor f v) p e = at-node-paid fuel w leaf leaf i j _ p (λ n is s q. factor-paid fuel w leaf version n f v j s q) e
 inside-paid fuel w leaf version cons i j (line.Split f initial) p e = at-node-paid fuel w leaf leaf i j _ p (λ n is s q. split-paid fuel w leaf version n f initial j s q) e
 inside-paid fuel w leaf version cons i j (line.Close k) p e = at-node-paid fuel w leaf leaf i j _ p
     (λ n is s q. subst (λ (x : Inside). PaidWork fuel w leaf x.eqs x.nes x.work) (fits-some _ _ j q).1 (over fuel w leaf (omega (arith, s.within)))) e
 inside-paid fuel w leaf version cons i j (line.Clash k m) p e = at-node-paid fuel w leaf leaf i j _ p
+    (λ n is s q. subst (λ (x : Inside). PaidWork fuel w leaf x.eqs x.nes x.work) (fits-some _ _ j q).1 (over fuel w leaf (omega (arith, s.within)))) e
+inside-paid fuel w leaf version cons i j (line.Void k f) p e = at-node-paid fuel w leaf leaf i j _ p
     (λ n is s q. subst (λ (x : Inside). PaidWork fuel w leaf x.eqs x.nes x.work) (fits-some _ _ j q).1 (over fuel w leaf (omega (arith, s.within)))) e
 inside-paid fuel w leaf version cons i j line.System p e = at-node-paid fuel w leaf (at_work i.work) i j _ p
     (λ n is s q. subst (λ (x : Inside). PaidWork fuel w (at_work i.work) x.eqs x.nes x.work) (fits-some _ _ j q).1 (let k = ap at_work is in omega (arith, s.within, s.enough, k))) e
@@ -319,6 +339,9 @@ line-paid s t leaf (line.Verdict v) p early e = at (settled s s.part) refl e
 line-paid s t leaf (line.Drop i) p early e = row-paid s t leaf leaf (line.Drop i) s.part (λ path i q. refl) p e
 line-paid s t leaf (line.Red g f m r) p early e = row-paid s t leaf leaf (line.Red g f m r) s.part (λ path i q. refl) p e
 line-paid s t leaf (line.Tail f r) p early e = row-paid s t leaf leaf (line.Tail f r) s.part (λ path i q. refl) p e
+line-paid s t leaf (line.Cancel g q r) p early e = row-paid s t leaf leaf (line.Cancel g q r) s.part (λ path i q. refl) p e
+line-paid s t leaf (line.Factor f v) p early e = row-paid s t leaf leaf (line.Factor f v) s.part (λ path i q. refl) p e
+line-paid s t leaf (line.Void j f) p early e = row-paid s t leaf leaf (line.Void j f) s.part (λ path i q. refl) p e
 line-paid s t leaf (line.Split f initial) p early e = row-paid s t leaf leaf (line.Split f initial) s.part (λ path i q. refl) p e
 line-paid s t leaf (line.Close i) p early e = row-paid s t leaf leaf (line.Close i) s.part (λ path i q. refl) p e
 line-paid s t leaf (line.Clash i j) p early e = row-paid s t leaf leaf (line.Clash i j) s.part (λ path i q. refl) p e
@@ -379,6 +402,9 @@ early-next place next (line.Node path) s t early g e = late place next word.Node
 early-next place next (line.Drop i) s t early g e = late place next word.Drop t g (omega arith)
 early-next place next (line.Red i f m r) s t early g e = late place next word.Red t g (omega arith)
 early-next place next (line.Tail f r) s t early g e = late place next word.Tail t g (omega arith)
+early-next place next (line.Cancel i q r) s t early g e = late place next word.Cancel t g (omega arith)
+early-next place next (line.Factor f v) s t early g e = late place next word.Factor t g (omega arith)
+early-next place next (line.Void j f) s t early g e = late place next word.Void t g (omega arith)
 early-next place next (line.Split f initial) s t early g e = late place next word.Split t g (omega arith)
 early-next place next (line.Close i) s t early g e = late place next word.Close t g (omega arith)
 early-next place next (line.Clash i j) s t early g e = late place next word.Clash t g (omega arith)

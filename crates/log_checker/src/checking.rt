@@ -53,6 +53,7 @@ impl Progress {
             LogLine::Vars(_) => self.leaf,
             LogLine::Hyp(_) | LogLine::Con(_) | LogLine::Node(_) | LogLine::Drop(_) => self.leaf,
             LogLine::Red { .. } | LogLine::Tail { .. } | LogLine::Split { .. } => self.leaf,
+            LogLine::Cancel { .. } | LogLine::Factor { .. } | LogLine::Void(_, _) => self.leaf,
             LogLine::Close(_) | LogLine::Clash(_, _) | LogLine::Chain(_) | LogLine::Proved =>
                 self.leaf,
             LogLine::Remainder(_) | LogLine::Unreduced { .. } | LogLine::Eq(_) => self.leaf,
