@@ -7,13 +7,14 @@ use Rattle.std.specs.List.{list_any}
 use Rattle.std.proofs.lemmas.Option.{same_Some}
 use Rattle.poly_model.specs.Polynomial.{Polynomial}
 use Rattle.poly_model.specs.declared.limits.Reason.{Reason}
-use Rattle.poly_model.specs.Reduction.{same, primitive_initial, primitive_tail}
+use Rattle.poly_model.specs.Powers.{stripped}
+use Rattle.poly_model.specs.Reduction.{main_place, same, primitive_initial, primitive_tail}
 use Rattle.proof_steps.specs.Numbers.{item, replaced}
 use Rattle.proof_steps.specs.Reasons.{same_reason}
-use Rattle.proof_steps.specs.Rules.{is_valid, is_short, reason_of, size_of, made, stepped, attempt_of, tells_result, plus_child, minus_child}
+use Rattle.proof_steps.specs.Rules.{is_valid, is_short, depth_limit, factor_children, reason_for, reason_of, size_of, made, stepped, attempt_of, tells_result, plus_child, minus_child}
 use Rattle.proof_steps.specs.Chain as chain
 use Rattle.proof_steps.specs.Chain.{Due, due_of, chain_reason, is_step}
-use Rattle.proof_steps.specs.Trees.{step_fits, same_path}
+use Rattle.proof_steps.specs.Trees.{may_factor, step_fits, same_path}
 use Rattle.proof_steps.specs.declared.piece.ChainStep.{ChainStep}
 use Rattle.proof_steps.specs.declared.piece.Node.{Node}
 use Rattle.proof_steps.specs.declared.step.Attempt.TheVariants as attempt
@@ -21,7 +22,7 @@ use Rattle.proof_steps.specs.declared.step.Step.{Step}
 use Rattle.proof_steps.specs.declared.step.Step.TheVariants as step
 use Rattle.proof_steps.proofs.Following.{none-reason}
 use Rattle.tree_laws.specs.Costs.{total_fuel, HaveFuel}
-use Rattle.tree_laws.proofs.Unfold.{size-some, not-short, holds-size, one-short}
+use Rattle.tree_laws.proofs.Unfold.{size-some, not-short, holds-size, one-short, reason_by-none}
 use Rattle.tree_laws.proofs.Paid.{have-append, fuel-append}
 use Rattle.proof_log.specs.Headings.{share_of}
 use Rattle.proof_log.specs.Places.{run, goes, start, stands, parts_before, part_behind, number, counted, at_part}
@@ -34,7 +35,7 @@ use Rattle.proof_log.specs.declared.line.LogLine.TheVariants as line
 use Rattle.proof_log.specs.declared.place.Part as places
 use Rattle.proof_log.specs.declared.place.Part.TheVariants as place_part
 use Rattle.proof_log.specs.declared.place.Place.{Place}
-use Rattle.log_checker.specs.Fitting.{Work, At, Chaining, Ended, Inside, Part, Opening, Within, Between, State, begin, after, fitted, where_fits, listed, in_piece, settled, root, behind, end_of_work, node_row, node_settled, verdict_row, verdict_settled, inside_row, by_part, step_row, split_row, by_node, by_chain, where_whole, at_node, in_chain, eq_row, ne_row, chain_row, proved_row, remainder_row, unreduced_row}
+use Rattle.log_checker.specs.Fitting.{Work, At, Chaining, Ended, Inside, Part, Opening, Within, Between, State, begin, after, fitted, where_fits, listed, in_piece, settled, root, behind, end_of_work, node_row, node_settled, verdict_row, verdict_settled, inside_row, by_part, step_row, split_row, factor_row, by_node, by_chain, where_whole, at_node, in_chain, eq_row, ne_row, chain_row, proved_row, remainder_row, unreduced_row}
 use Rattle.log_checker.specs.Held.{at_work, node_size, leaf_after, leaf_behind, node_sizes, held_work, held_part, HeldIsPaid}
 
 -- ---- the invariant
